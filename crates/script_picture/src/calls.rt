@@ -1,18 +1,18 @@
-//! Who is called by a row, and the arrows of calls to a lane, row by row.
+//! Which places a row notifies, and the arrows of notifications to a lane, row by row.
 ghost use Rattle.std.specs.Prelude.{◌≡◌, ◌+◌, ◌<◌, IfOk, length};
 ghost use Rattle.script_picture.specs.Shown.{Calls, LeavesAlone};
 
 use crate::chart::{Chart, Lanes, Row, caller};
-use crate::frame::{Frame, ROW, Track, row_top};
+use crate::frame::{Frame, ROW, Track};
 use crate::shapes::{moved, write_call_arrow};
 use arrayvec::ArrayVec;
 use std::io;
 use std::io::Write;
 
-/// For each place who calls it by a row, if one does.
+/// For each place, the place that notifies it by a row, if one does.
 pub type Callers = ArrayVec<Option<u64>, 64>;
 
-/// Who is called by a row, by what the places did before it.
+/// Returns which places a row notifies and by which place, by what the places did before the row.
 pub fn callers_of(lanes: &Lanes, row: Row) -> Callers {
     let mut callers = ArrayVec::new();
     for (place, lane) in lanes.as_slice().iter().enumerate() {
@@ -21,31 +21,31 @@ pub fn callers_of(lanes: &Lanes, row: Row) -> Callers {
     callers
 }
 
-/// How far the arrows to a lane are drawn: each row before this one that calls its place has its own. Only `write_call`
-/// and `past` take it further.
+/// The rows whose arrows to a lane are drawn: each row before this one that notifies its place has its own, if the
+/// frame shows it. Only `write_call` and `past` move it.
 #[derive(Clone, Copy)]
 pub struct Noted {
     row: u64,
 }
 
-/// A call of the place of a lane by another place, at the next row.
+/// A notification of the place of a lane by another place, at the next row.
 #[derive(Clone, Copy)]
 pub struct Call {
-    /// The place that calls.
+    /// The place that notifies.
     pub from: u64,
-    /// The lane of the place that is called.
+    /// The lane of the place that is notified.
     pub to: Track,
 }
 
 impl Noted {
-    /// No row has an arrow yet.
+    /// Creates the value for which no row has an arrow yet.
     pub fn nothing() -> Noted
         ensures { result.row ≡ 0 }
     {
         Noted { row: 0 }
     }
 
-    /// Past a row that doesn't call the place of a lane. The chart and the lane are there for the clause.
+    /// Moves past a row that doesn't notify the place of a lane. The chart and the lane are parameters for the clause.
     pub fn past(self, chart: &Chart, track: Track) -> Noted
         requires inside { self.row < length chart.now.rows.items }
         requires alone { LeavesAlone chart.now self.row track.place }
@@ -55,8 +55,9 @@ impl Noted {
     }
 }
 
-/// Writes the arrow of a call, between the sides of two boxes. The chart is there for the clause: the one is inside
-/// before the row, and the other waits before it and is called after it.
+/// Writes the arrow of a notification between the sides of two boxes, if the frame shows its row. The chart is a
+/// parameter for the clause: the notifying place is inside before the row, and the other place waits before it and is
+/// notified after it.
 pub fn write_call<W: Write>(
     writer: &mut W,
     frame: &Frame,
@@ -68,15 +69,20 @@ pub fn write_call<W: Write>(
     requires calls { Calls chart.now noted.row call.from call.to.place }
     ensures { IfOk result (λ n. n.row ≡ noted.row + 1) }
 {
-    let next = Noted { row: noted.row + 1 };
+    if frame.shown.has(noted.row) {
+        write_between(writer, frame, frame.row_top(noted.row), call)?;
+    }
+    Ok(Noted { row: noted.row + 1 })
+}
+
+// Writes the arrow of a notification at the row with this top.
+fn write_between<W: Write>(writer: &mut W, frame: &Frame, top: u64, call: Call) -> io::Result<()> {
     let Some(from) = frame.track(call.from) else {
-        return Ok(next); // never: a place that calls is not idle
+        return Ok(()); // never: it is inside before a shown row, and so has a lane
     };
     let to = call.to;
     let rightward = from.middle < to.middle;
     let begin = moved(from.middle, from.half, rightward);
     let end = moved(to.middle, to.half, !rightward);
-    let y = row_top(noted.row).saturating_add(ROW / 2);
-    write_call_arrow(writer, begin, end, y)?;
-    Ok(next)
+    write_call_arrow(writer, begin, end, top.saturating_add(ROW / 2))
 }

@@ -1,4 +1,4 @@
-//! Rows and lanes: what each place does after each step, read off the answers.
+//! Rows and lanes: what each place does after each step, derived from the answers.
 ghost use Rattle.std.specs.Prelude.{◌≡◌, ◌<◌, ◌≤◌, ◌↔◌, ℕ, IsTrue, length, slice_index_or};
 ghost use Rattle.hoare_law.specs.declared.event.History.{History};
 ghost use Rattle.hoare_script.specs.Answers.{history_after};
@@ -22,50 +22,50 @@ pub enum Lane {
     Inside,
     /// It waits on this condition, with this priority.
     Waiting(u64, u64),
-    /// It signalled, and waits for its return.
+    /// It signalled, and waits to return.
     Signalling,
-    /// It waited on this condition, with this priority, was called, and hasn't gone on yet. Of those it is this one: 1
-    /// goes on first.
+    /// It waited on this condition, with this priority, was notified, and hasn't resumed yet. The last number is its
+    /// position among such processes: 1 resumes first.
     Called(u64, u64, u8),
 }
 
 /// What each of at most 64 places does.
 pub type Lanes = ArrayVec<Lane, 64>;
 
-/// For each place its number among those that were called and haven't gone on yet: 1 of the one that goes on first, and
-/// 0 of a place that isn't among them.
+/// The number of each place among those that were notified and haven't resumed yet: 1 for the place that resumes first,
+/// and 0 for a place that isn't among them.
 pub type Numbers = [u8; 64];
 
-/// A command with its answer, and who is called after it.
+/// A command with its answer, and the notified places after it.
 #[derive(Clone, Copy, Debug, PartialEq, Eq)]
 pub struct Row {
-    /// What the line asks.
+    /// The command of the line.
     pub command: Command,
-    /// What is answered.
+    /// The answer to it.
     pub answer: Answer,
-    /// The numbers of all places among those that are called after it.
+    /// The numbers of all places among those that are notified after it and haven't resumed.
     pub numbers: Numbers,
 }
 
 /// A script that was read: its header, and its rows in order.
 #[derive(Drop)]
 pub struct Chart {
-    /// What the first line says.
+    /// The header of the first line.
     pub header: Header,
     /// A row for each command, in order.
     pub rows: Vec<Row>,
 }
 
-/// One place gives the monitor up, and another goes on.
+/// A hand-off: one place releases the monitor, and another resumes.
 #[derive(Clone, Copy, Debug, PartialEq, Eq)]
 pub struct HandOver {
-    /// The place that gives it up.
+    /// The place that releases it.
     pub from: u64,
-    /// The place that goes on.
+    /// The place that resumes.
     pub to: u64,
 }
 
-/// The place that does a step.
+/// Returns the place that does a step.
 fn actor(step: Step) -> u64
     ensures { result ≡ actor step }
 {
@@ -80,7 +80,7 @@ fn actor(step: Step) -> u64
     }
 }
 
-/// What the place that does a step does then, unless it is inside.
+/// Returns what the place that does a step does after it, unless it is inside.
 fn left_as(step: Step) -> Lane
     ensures { result ≡ left_as step }
 {
@@ -95,7 +95,7 @@ fn left_as(step: Step) -> Lane
     }
 }
 
-/// The number of a place among the called after a row, and 0 where it isn't called.
+/// Returns the number of a place among the notified after a row, and 0 if it isn't among them.
 fn number_in(row: Row, place: u64) -> u8
     ensures { result ≡ slice_index_or row.numbers place 0 }
 {
@@ -105,7 +105,7 @@ fn number_in(row: Row, place: u64) -> u8
     }
 }
 
-/// What a place does that began to wait, by its number among the called.
+/// Returns what a place that began to wait does, by its number among the notified.
 fn lane_numbered(number: u8, condition: u64, priority: u64) -> Lane
     ensures { result ≡ lane_numbered number condition priority }
 {
@@ -115,8 +115,8 @@ fn lane_numbered(number: u8, condition: u64, priority: u64) -> Lane
     Lane::Called(condition, priority, number)
 }
 
-/// What a place does beside a step of another that doesn't let it go on: one that waits, or was called, has its number,
-/// and any other goes on as before.
+/// Returns what a place does after a step of another place that doesn't resume it. A waiting or notified place has its
+/// number; any other place does what it did before.
 fn lane_beside(number: u8, before: Lane) -> Lane
     ensures { result ≡ lane_beside number before }
 {
@@ -129,9 +129,9 @@ fn lane_beside(number: u8, before: Lane) -> Lane
     }
 }
 
-/// What a place does after a row, by what it did before: the place of the answer is inside, the place of the step as
-/// the step leaves it, who is called by then is called, and each other does as before. A refused step changes nothing,
-/// nor does a question.
+/// Returns what a place does after a row, by what it did before. The place of the answer is inside; the place of the
+/// step does what the step leaves it doing; a place that is notified by then is notified; any other place does what it
+/// did before. A refused step changes nothing, nor does a question.
 pub fn lane_after(row: Row, place: u64, before: Lane) -> Lane
     ensures { result ≡ lane_after row place before }
 {
@@ -152,7 +152,7 @@ pub fn lane_after(row: Row, place: u64, before: Lane) -> Lane
     lane_beside(number_in(row, place), before)
 }
 
-/// Whether a place that waited is called.
+/// Returns true if a place waited before and is notified after.
 fn is_call(before: Lane, after: Lane) -> bool
     ensures { result ≡ is_call before after }
 {
@@ -162,7 +162,7 @@ fn is_call(before: Lane, after: Lane) -> bool
     }
 }
 
-/// Who calls a place by a row, if one does, by what that did before.
+/// Returns the place that notifies a place by a row, if one does, by what the notified place did before.
 pub fn caller(row: Row, place: u64, before: Lane) -> Option<u64>
     ensures { result ≡ caller row place before }
 {
@@ -175,7 +175,7 @@ pub fn caller(row: Row, place: u64, before: Lane) -> Option<u64>
     None
 }
 
-/// The hand-over of a row: from the place of the step to the place of the answer, if that is another.
+/// Returns the hand-off of a row: from the place of the step to the place of the answer, if they differ.
 pub fn hand_over(row: Row) -> Option<HandOver>
     ensures { result ≡ hand_over row }
 {
@@ -193,7 +193,7 @@ pub fn hand_over(row: Row) -> Option<HandOver>
     Some(HandOver { from, to })
 }
 
-/// All of at most 64 places as they begin: these lanes show the history where nothing happened yet.
+/// Returns the lanes of at most 64 places at the beginning: they show the history in which nothing happened yet.
 pub fn outside_lanes(header: Header) -> Lanes
     ensures { header.places ≤ 64 → Shows (opening header) result.items }
 {
@@ -204,7 +204,7 @@ pub fn outside_lanes(header: Header) -> Lanes
     lanes
 }
 
-/// What a place does by these lanes: outside, where there is no lane of it.
+/// Returns what a place does by these lanes. A place without a lane is outside.
 pub fn lane_of(lanes: &Lanes, place: u64) -> Lane
     ensures { result ≡ slice_index_or lanes.now.items place states.Outside }
 {
@@ -214,16 +214,16 @@ pub fn lane_of(lanes: &Lanes, place: u64) -> Lane
     }
 }
 
-/// Whether a place does this by these lanes.
+/// Returns true if a place does this by these lanes.
 pub fn does(lanes: &Lanes, place: u64, lane: Lane) -> bool
     ensures { IsTrue result ↔ (slice_index_or lanes.now.items place states.Outside ≡ lane) }
 {
     lane_of(lanes, place) == lane
 }
 
-/// Takes all lanes past a row. Where the row is answered as a history says, lanes that show this history go on to show
-/// the history after the row: who waits there, who is a waiting signaller, who is called and as which, whose turn it
-/// is, and who is outside.
+/// Moves all lanes past a row. If the row has the answer by a history, and the lanes show this history, they then show
+/// the history after the row: which places wait, which are waiting signallers, which are notified and with which
+/// numbers, which place has the turn, and which are outside.
 pub fn advance(lanes: &mut [Lane], row: Row)
     ensures length { length lanes.new ≡ length lanes.old }
     ensures each { (k : ℕ) → k < length lanes.old → slice_index_or lanes.new k states.Outside

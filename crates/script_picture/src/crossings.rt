@@ -1,40 +1,40 @@
-//! The arrows of hand-overs, row by row.
+//! The arrows of hand-offs, row by row.
 ghost use Rattle.std.specs.Prelude.{◌≡◌, ◌+◌, ◌<◌, IfOk, length};
 ghost use Rattle.script_picture.specs.Shown.{HandsOver, KeepsTurn};
 
 use crate::chart::{Chart, HandOver};
-use crate::frame::{Frame, ROW, row_top};
+use crate::frame::{Frame, ROW};
 use crate::shapes::{Arrow, moved, write_arrow, write_dot};
 use std::io;
 use std::io::Write;
 
-/// How far the arrows are drawn: each row before this one that hands over has its own. Only `write_crossing` and `past`
-/// take it further.
+/// The rows whose arrows are drawn: each row before this one that hands off has its own, if the frame shows it. Only
+/// `write_crossing` and `past` move it.
 #[derive(Clone, Copy)]
 pub struct Crossed {
     row: u64,
 }
 
-/// A hand-over at the next row: whether the one that goes on returns, and whether the other is gone.
+/// A hand-off at the next row.
 #[derive(Clone, Copy)]
 pub struct Crossing {
     /// From which place to which.
     pub over: HandOver,
-    /// Whether the one that goes on was a waiting signaller.
+    /// True if the resumed place was a waiting signaller.
     pub returns: bool,
-    /// Whether the other is outside after the row.
+    /// True if the place that hands off is outside after the row.
     pub gone: bool,
 }
 
 impl Crossed {
-    /// No row has an arrow yet.
+    /// Creates the value for which no row has an arrow yet.
     pub fn nothing() -> Crossed
         ensures { result.row ≡ 0 }
     {
         Crossed { row: 0 }
     }
 
-    /// Past a row that hands nothing over. The chart is there for the clause.
+    /// Moves past a row without a hand-off. The chart is a parameter for the clause.
     pub fn past(self, chart: &Chart) -> Crossed
         requires inside { self.row < length chart.now.rows.items }
         requires keeps { KeepsTurn chart.now self.row }
@@ -44,8 +44,9 @@ impl Crossed {
     }
 }
 
-/// Writes the arrow of a hand-over, between the sides of two boxes, or from a dot where the place is gone. The chart is
-/// there for the clause: the one is inside before the row, and the other after it.
+/// Writes the arrow of a hand-off between the sides of two boxes, if the frame shows its row. The arrow begins at a dot
+/// if the place is gone. The chart is a parameter for the clause: the first place is inside before the row, and the
+/// second after it.
 pub fn write_crossing<W: Write>(
     writer: &mut W,
     frame: &Frame,
@@ -57,14 +58,26 @@ pub fn write_crossing<W: Write>(
     requires hands { HandsOver chart.now crossed.row crossing.over crossing.returns crossing.gone }
     ensures { IfOk result (λ c. c.row ≡ crossed.row + 1) }
 {
-    let next = Crossed {
+    if frame.shown.has(crossed.row) {
+        write_between(writer, frame, frame.row_top(crossed.row), crossing)?;
+    }
+    Ok(Crossed {
         row: crossed.row + 1,
-    };
+    })
+}
+
+// Writes the arrow of a hand-off at the row with this top.
+fn write_between<W: Write>(
+    writer: &mut W,
+    frame: &Frame,
+    top: u64,
+    crossing: Crossing,
+) -> io::Result<()> {
     let over = crossing.over;
     let (Some(from), Some(to)) = (frame.track(over.from), frame.track(over.to)) else {
-        return Ok(next); // never: a place that hands over or goes on is not idle
+        return Ok(()); // never: each place is inside before or after a shown row, and so has a lane
     };
-    let middle = row_top(crossed.row).saturating_add(ROW / 2);
+    let middle = top.saturating_add(ROW / 2);
     if crossing.gone {
         write_dot(writer, from.middle, middle)?;
     }
@@ -76,6 +89,5 @@ pub fn write_crossing<W: Write>(
         middle,
         returns: crossing.returns,
     };
-    write_arrow(writer, arrow)?;
-    Ok(next)
+    write_arrow(writer, arrow)
 }

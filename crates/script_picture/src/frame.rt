@@ -1,46 +1,47 @@
-//! Where the parts of an SVG stand, in pixels. A sum past 64 bits stays at the greatest number.
+//! Where the parts of an SVG are, in pixels. A sum past 64 bits stays at the greatest number.
 use crate::chart::Chart;
+use crate::steps::{Shown, Steps};
 use crate::widths::{Column, Widths, widths_of};
 use crate::words::place_text;
 use arrayvec::ArrayVec;
 
-/// The height of a row.
+/// The height of a row, in pixels.
 pub const ROW: u64 = 28;
 
-/// The most rows that a picture has: with one more it is over 32,767 high, which viewers don't draw.
-pub const MOST_ROWS: usize = 1_164;
+/// The most rows that a picture shows. With one more it is over 32,767 pixels high, which viewers don't draw.
+pub const MOST_ROWS: u64 = 1_164;
 
-/// How far the texts stand from the left and right edges.
+/// The distance of the texts from the left and right edges, in pixels.
 pub const MARGIN: u64 = 20;
 
-/// Where the header and the places' numbers stand.
+/// The line of the header and of the places' numbers, in pixels from the upper edge.
 pub const HEAD_LINE: u64 = 42;
 
-/// The height above the first row.
+/// The height above the first shown row, in pixels.
 const HEAD: u64 = 64;
 
-/// The height below the last row.
+/// The height below the last shown row, in pixels.
 const LEGEND: u64 = 104;
 
-/// The least width, which the legend has room in.
+/// The least width, in pixels: the legend has room in it.
 const LEAST_WIDTH: u64 = 560;
 
-/// The least width where there are Mesa conditions.
+/// The least width if there are Mesa conditions, in pixels.
 const LEAST_MESA_WIDTH: u64 = 708;
 
-/// The width of a character.
+/// The width of a character, in pixels.
 const CHARACTER: u64 = 8;
 
-/// The room between the steps and the first box.
+/// The room between the steps and the first box, in pixels.
 const STEPS_GAP: u64 = 24;
 
-/// The room between two boxes.
+/// The room between two boxes, in pixels.
 const GAP: u64 = 44;
 
-/// The room between the last box and the remarks.
+/// The room between the last box and the remarks, in pixels.
 const REMARKS_GAP: u64 = 16;
 
-/// Where a place's lane stands: its middle, and half the width of its boxes.
+/// The lane of a place: its middle, and half the width of its boxes, in pixels.
 #[derive(Clone, Copy, Debug, Default, PartialEq, Eq)]
 pub struct Track {
     /// The place's number.
@@ -51,27 +52,27 @@ pub struct Track {
     pub half: u64,
 }
 
-/// The frame of a chart.
+/// The frame of a chart. Lengths are in pixels.
 #[derive(Drop)]
 pub struct Frame {
     /// The lanes that are shown, by rising places.
     pub tracks: ArrayVec<Track, 64>,
-    /// How many places are idle, and have no lane.
+    /// The number of places that are idle, and have no lane.
     pub idle: u64,
-    /// Where remarks begin.
+    /// The left edge of the remarks.
     pub remarks: u64,
-    /// How wide the picture is.
+    /// The width of the picture.
     pub width: u64,
-    /// How high the picture is.
+    /// The height of the picture.
     pub height: u64,
-    /// How many rows it has.
-    pub rows: u64,
+    /// The rows that are shown.
+    pub shown: Shown,
 }
 
-/// The frame that a chart has room in: each lane is as wide as its own longest text.
-pub fn frame_of(chart: &Chart) -> Frame {
-    let widths = widths_of(chart);
-    let rows = chart.rows.len() as u64;
+/// Returns the frame that these steps of a chart have room in: each lane is as wide as its own longest text.
+pub fn frame_of(chart: &Chart, steps: Steps) -> Frame {
+    let shown = steps.among(chart.rows.len() as u64);
+    let widths = widths_of(chart, shown);
     let mut tracks = ArrayVec::new();
     let mut edge = across(MARGIN, widths.steps).saturating_add(STEPS_GAP);
     for column in widths.columns.as_slice() {
@@ -85,12 +86,13 @@ pub fn frame_of(chart: &Chart) -> Frame {
         idle: widths.idle,
         remarks,
         width: width_of(remarks, &widths, chart.header.mesa),
-        height: row_top(rows).saturating_add(LEGEND),
-        rows,
+        height: height_of(shown.count).saturating_add(LEGEND),
+        shown,
     }
 }
 
-// The lane of a column from this left edge on. A wait is spelled with one letter more than in a chart.
+// Returns the lane of a column whose boxes begin at this left edge. A wait is spelled with one letter more than in a
+// chart.
 fn track_at(edge: u64, column: Column) -> Track {
     let place = column.place;
     let name = place_text(place).len().saturating_add(6);
@@ -103,7 +105,7 @@ fn track_at(edge: u64, column: Column) -> Track {
     }
 }
 
-// Where remarks begin.
+// Returns the left edge of the remarks, by the left edge of a further box.
 fn remarks_after(tracks: &ArrayVec<Track, 64>, edge: u64) -> u64 {
     if tracks.is_empty() {
         return edge;
@@ -122,18 +124,29 @@ fn width_of(remarks: u64, widths: &Widths, mesa: u64) -> u64 {
         .max(least)
 }
 
-// Past this number of characters.
+// Returns the right edge of this number of characters.
 fn across(from: u64, characters: usize) -> u64 {
     from.saturating_add((characters as u64).saturating_mul(CHARACTER))
 }
 
-/// Where a row begins.
-pub fn row_top(row: u64) -> u64 {
-    HEAD.saturating_add(ROW.saturating_mul(row))
+// Returns the height of the head and this number of rows.
+fn height_of(rows: u64) -> u64 {
+    HEAD.saturating_add(ROW.saturating_mul(rows))
 }
 
 impl Frame {
-    /// Where a place's lane stands, if it is shown.
+    /// Returns the top of a row of the script. A row before the first shown row has the top of that row. A row after the
+    /// last shown row has the bottom of that row.
+    pub fn row_top(&self, row: u64) -> u64 {
+        height_of(row.saturating_sub(self.shown.before).min(self.shown.count))
+    }
+
+    /// Returns the bottom of the last shown row.
+    pub fn bottom(&self) -> u64 {
+        height_of(self.shown.count)
+    }
+
+    /// Returns the lane of a place, if it is shown.
     pub fn track(&self, place: u64) -> Option<Track> {
         let tracks = self.tracks.as_slice();
         tracks.iter().find(|track| track.place == place).copied()

@@ -4,7 +4,7 @@ use crate::shapes::{Area, Arrow, BASELINE, write_arrow, write_box, write_call_ar
 use std::io;
 use std::io::Write;
 
-/// Writes what the shapes mean, below the rows. A call is among them where there are Mesa conditions.
+/// Writes what the shapes mean, below the rows. A notification is among them if there are Mesa conditions.
 pub fn write_legend<W: Write>(writer: &mut W, bottom: u64, mesa: u64) -> io::Result<()> {
     let top = bottom.saturating_add(18);
     write_boxes(writer, top)?;
@@ -15,7 +15,7 @@ pub fn write_legend<W: Write>(writer: &mut W, bottom: u64, mesa: u64) -> io::Res
     write_call(writer, top.saturating_add(52))
 }
 
-// What a box means, for each of the three.
+// Writes what a box means, for each of the three.
 fn write_boxes<W: Write>(writer: &mut W, first: u64) -> io::Result<()> {
     let lanes = [
         (Lane::Inside, "is inside the monitor"),
@@ -37,7 +37,7 @@ fn write_boxes<W: Write>(writer: &mut W, first: u64) -> io::Result<()> {
     Ok(())
 }
 
-// What an arrow means, for both of them.
+// Writes what an arrow means, for both of them.
 fn write_arrows<W: Write>(writer: &mut W, first: u64) -> io::Result<()> {
     let arrows = [(false, "a waiter goes on"), (true, "a signaller returns")];
     let mut top = first;
@@ -55,7 +55,7 @@ fn write_arrows<W: Write>(writer: &mut W, first: u64) -> io::Result<()> {
     Ok(())
 }
 
-// What the arrow of a call and the box of who is called mean.
+// Writes what the arrow of a notification and the box of a notified process mean.
 fn write_call<W: Write>(writer: &mut W, top: u64) -> io::Result<()> {
     let area = Area {
         middle: 438,

@@ -12,6 +12,7 @@ pub mod picture;
 mod read;
 mod shapes;
 mod spans;
+pub mod steps;
 mod svg;
 mod text;
 mod widths;
@@ -19,3 +20,4 @@ mod words;
 
 pub use fault::PictureFault;
 pub use picture::{Form, draw_script, draw_watched};
+pub use steps::{ALL_STEPS, Steps};

@@ -1,13 +1,14 @@
 //! A whole picture, from a script to its drawing.
 ghost use Rattle.std.specs.Prelude.{◌≡◌, ◌||◌, false, length};
 ghost use Rattle.line_text.specs.Streams.{has_read_failed};
-ghost use Rattle.script_picture.specs.Faults.{is_read_fault, is_too_tall, is_without_room};
+ghost use Rattle.script_picture.specs.Faults.{IsTallBy, is_read_fault, is_too_tall, is_without_room, rows_shown};
 ghost use Rattle.script_picture.specs.Shown.{IsTold};
 
 use crate::chart::Chart;
 use crate::fault::PictureFault;
 use crate::frame::MOST_ROWS;
 use crate::read::open_script;
+use crate::steps::Steps;
 use crate::{svg, text};
 use hoare_script::ScriptFault;
 use line_text::reader::WatchedReader;
@@ -18,16 +19,17 @@ use std::io::{Read, Write};
 /// What a script is drawn as.
 #[derive(Clone, Copy, Debug, PartialEq, Eq)]
 pub enum Form {
-    /// An SVG, of at most 1,164 steps.
-    Svg,
-    /// A chart of letters for a terminal.
+    /// An SVG of these steps, of at most 1,164 of them.
+    Svg(Steps),
+    /// A chart of letters for a terminal, of all steps.
     Text,
 }
 
-/// Reads a script to its end or its first fault, and draws the rows before it. A fault at the header leaves nothing
-/// written. Refused as `hoare_script::run` refuses, but `Memory` also comes where a row can't be kept, and `WriteFault`
-/// only where the script has no fault: all is read before anything is written. `TooTall` comes where the script has no
-/// fault and has more rows than an SVG has room for; such an SVG isn't begun, be the script at fault or not.
+/// Reads a script to its end or its first fault, and draws the rows before it, or those of an SVG's steps. Nothing is
+/// written if the fault is in the header. The refusals are those of `hoare_script::run`, with two differences. `Memory`
+/// is also returned if a row can't be kept. `WriteFault` is returned only if the script has no fault, since all is read
+/// before anything is written. `TooTall` is returned if the script has no fault and an SVG has no room for the steps it
+/// shows. Nothing of such an SVG is written, even if the script has a fault.
 pub fn draw_script<R: Read, W: Write>(
     alloc: Global,
     reader: &mut R,
@@ -38,7 +40,8 @@ pub fn draw_script<R: Read, W: Write>(
     draw_watched(alloc, &mut watched, writer, form)
 }
 
-/// `draw_script`, with a reader that remembers whether it failed: `ReadFault` is answered exactly where a read failed.
+/// Draws a script as `draw_script` does, with a reader that records if a read failed. `ReadFault` is returned exactly
+/// if a read failed.
 pub fn draw_watched<R: Read, W: Write>(
     alloc: Global,
     reader: &mut WatchedReader<'_, R>,
@@ -55,15 +58,16 @@ pub fn draw_watched<R: Read, W: Write>(
     drawn
 }
 
-// Writes a chart in a form, unless it has no room there.
+// Writes a chart in a form, unless the form has no room for it.
 fn draw_chart<W: Write>(writer: &mut W, chart: &Chart, form: Form) -> Result<(), PictureFault>
     requires { IsTold chart.now }
     ensures read { is_read_fault result ≡ false }
     ensures tall { is_too_tall result ≡ is_without_room form (length chart.now.rows.items) }
+    ensures steps { IsTallBy (rows_shown form (length chart.now.rows.items)) result }
 {
-    let steps = chart.rows.len();
-    if is_without_room(form, steps) {
-        return Err(PictureFault::TooTall(steps));
+    let rows = chart.rows.len() as u64;
+    if is_without_room(form, rows) {
+        return Err(PictureFault::TooTall(rows_shown(form, rows)));
     }
     match write_chart(writer, chart, form) {
         Ok(()) => Ok(()),
@@ -71,13 +75,23 @@ fn draw_chart<W: Write>(writer: &mut W, chart: &Chart, form: Form) -> Result<(),
     }
 }
 
-// Whether this number of rows has no room in a form.
-fn is_without_room(form: Form, rows: usize) -> bool
+// Returns true if a form of a script with this number of rows shows more rows than it has room for.
+fn is_without_room(form: Form, rows: u64) -> bool
     ensures { result ≡ is_without_room form rows }
 {
     match form {
-        Form::Svg => rows > MOST_ROWS,
+        Form::Svg(steps) => steps.among(rows).count > MOST_ROWS,
         Form::Text => false,
+    }
+}
+
+// Returns how many rows a form shows of a script with this number of rows.
+fn rows_shown(form: Form, rows: u64) -> u64
+    ensures { result ≡ rows_shown form rows }
+{
+    match form {
+        Form::Svg(steps) => steps.among(rows).count,
+        Form::Text => rows,
     }
 }
 
@@ -85,7 +99,7 @@ fn write_chart<W: Write>(writer: &mut W, chart: &Chart, form: Form) -> io::Resul
     requires { IsTold chart.now }
 {
     match form {
-        Form::Svg => svg::draw(writer, chart)?,
+        Form::Svg(steps) => svg::draw(writer, chart, steps)?,
         Form::Text => text::draw(writer, chart)?,
     }
     writer.flush()

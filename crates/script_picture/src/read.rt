@@ -1,4 +1,4 @@
-//! Reads a script row by row, as `hoare_script` answers it.
+//! Reads a script row by row, with the answers of `hoare_script`.
 ghost use Rattle.std.specs.Prelude.{◌≡◌, ◌≤◌, ◌||◌, ℕ, false, None, IfOk, OnOk, slice_index_or};
 ghost use Rattle.std.specs.Result.{MatchResult};
 ghost use Rattle.hoare_law.specs.declared.event.History.{History};
@@ -22,22 +22,22 @@ use std::alloc::Global;
 use std::io::Read;
 use wait_book::steps::MakeRefused;
 
-// The most lines of a script: each but the last takes a byte at least, its end.
+// The most lines of a script: each but the last has at least one byte, its end.
 const MOST_LINES: u64 = MOST_BYTES as u64 + 1;
 
-/// A script that was opened by its header: what was read of it, its book, the bytes that may follow, and whether any
-/// do.
+/// A script whose header was read: the rows read so far, its book, the number of bytes that may follow, and how the
+/// last line ended.
 #[derive(Drop)]
 pub struct Script {
-    /// What was read so far.
+    /// The header and the rows that were read so far.
     pub chart: Chart,
     opened: Opened,
     room: usize,
     ended: Ended,
 }
 
-/// Reads the header. Refused: `NoHeader`, `BadHeader`, `LineTooLong`, `ReadFault`, and `Memory` where the book can't be
-/// had.
+/// Reads the header. Refusals: `NoHeader`, `BadHeader`, `LineTooLong`, `ReadFault`, and `Memory` if the book can't be
+/// made.
 pub fn open_script<R: Read>(
     alloc: Global,
     reader: &mut WatchedReader<'_, R>,
@@ -65,7 +65,7 @@ pub fn open_script<R: Read>(
     })
 }
 
-// The book of a header.
+// Creates the book of a header.
 #[tactic(auto, using(crate::proofs::Reading::few_places))]
 fn open_book(alloc: Global, header: Header) -> Result<Opened, ScriptFault>
     ensures book { IfOk result (λ b. (header.places ≤ 64) × IsOf b (opening header)) }
@@ -80,7 +80,7 @@ fn open_book(alloc: Global, header: Header) -> Result<Opened, ScriptFault>
     }
 }
 
-// The line with a number, where there is room for its bytes.
+// Reads the line with this number, of at most `room` bytes with its end.
 fn read_numbered<R: Read>(
     reader: &mut WatchedReader<'_, R>,
     line: &mut Line,
@@ -98,7 +98,7 @@ fn read_numbered<R: Read>(
     }
 }
 
-// The numbers of all places among the called.
+// Returns the numbers of all places among those that are notified and haven't resumed.
 fn numbers_of(opened: &Opened) -> Numbers
     ensures { (h : History (Unit {0})) → IsOf opened.now h → h.sizes.places ≤ 64
         → (k : ℕ) → slice_index_or result k 0 ≡ number_called h.events k }
@@ -112,8 +112,8 @@ fn numbers_of(opened: &Opened) -> Numbers
 
 impl Script {
     /// Reads the rows, up to the end or the first fault: `BadLine`, `LineTooLong`, `TooMuch`, `ReadFault`, or `Memory`
-    /// where no row can be added. What was read stays in the chart, each row answered as the history since the opening
-    /// says.
+    /// if no row can be added. The rows that were read stay in the chart, each with the answer by the history since the
+    /// opening.
     #[tactic(auto, using(crate::proofs::Reading::front_self, crate::proofs::Reading::front_same))]
     pub fn read_rows<R: Read>(
         &mut self,
@@ -140,7 +140,7 @@ impl Script {
         Ok(())
     }
 
-    // Does what a line asks, and adds it with its answer.
+    // Does the command of a line, and adds its row with the answer.
     fn add_row(&mut self, line: &[u8], number: u64) -> Result<(), ScriptFault>
         ensures told { IsRead self.old → IsTold self.new.chart }
         ensures book { OnOk result (IsRead self.old → IsRead self.new) }

@@ -3,10 +3,10 @@ use crate::chart::Lane;
 use std::io;
 use std::io::Write;
 
-/// How far below the top of a box its text stands.
+/// The distance from the top of a box to the base line of its text, in pixels.
 pub const BASELINE: u64 = 15;
 
-/// Where a box stands: its middle, half its width, its top and its height.
+/// The position and size of a box, in pixels.
 #[derive(Clone, Copy, Debug, PartialEq, Eq)]
 pub struct Area {
     /// Its middle, from the left edge.
@@ -19,20 +19,20 @@ pub struct Area {
     pub height: u64,
 }
 
-/// An arrow of a hand-over along a row: from here to there, at this height. A return is dashed.
+/// The arrow of a hand-off along a row, in pixels. It is dashed if a signaller returns.
 #[derive(Clone, Copy, Debug, PartialEq, Eq)]
 pub struct Arrow {
-    /// Where it begins, from the left edge.
+    /// Its begin, from the left edge.
     pub from: u64,
-    /// Where its tip is, from the left edge.
+    /// Its tip, from the left edge.
     pub to: u64,
-    /// How far it is below the upper edge.
+    /// Its height, from the upper edge.
     pub middle: u64,
-    /// Whether it leads to a signaller that returns.
+    /// True if it leads to a signaller that returns.
     pub returns: bool,
 }
 
-/// Writes the box of what a place does. Outside it has none.
+/// Writes the box of what a place does. A place that is outside has none.
 pub fn write_box<W: Write>(writer: &mut W, lane: Lane, area: Area) -> io::Result<()> {
     match lane {
         Lane::Outside => Ok(()),
@@ -43,14 +43,14 @@ pub fn write_box<W: Write>(writer: &mut W, lane: Lane, area: Area) -> io::Result
     }
 }
 
-// The box of who is inside.
+// Writes the box of a place that is inside.
 fn write_inside<W: Write>(writer: &mut W, area: Area) -> io::Result<()> {
     write_rectangle(writer, "inside", area)?;
     write_label(writer, area, "light")?;
     writer.write_all(b"inside</text>\n")
 }
 
-// The box of who waits on a condition with a priority.
+// Writes the box of a waiter on a condition with a priority.
 fn write_waiting<W: Write>(
     writer: &mut W,
     condition: u64,
@@ -62,14 +62,14 @@ fn write_waiting<W: Write>(
     write!(writer, "c{condition} p{priority}</text>\n")
 }
 
-// The box of who was called and goes on later, with its number among the called.
+// Writes the box of a notified process that hasn't resumed yet, with its number among those.
 fn write_called<W: Write>(writer: &mut W, number: u8, area: Area) -> io::Result<()> {
     write_rectangle(writer, "called", area)?;
     write_label(writer, area, "dark")?;
     write!(writer, "called {number}</text>\n")
 }
 
-// The box of who signalled and waits to return.
+// Writes the box of a signaller that waits to return.
 fn write_signalling<W: Write>(writer: &mut W, area: Area) -> io::Result<()> {
     write_half_filled(writer, area)?;
     write_label(writer, area, "dark")?;
@@ -88,7 +88,7 @@ fn write_half_filled<W: Write>(writer: &mut W, area: Area) -> io::Result<()> {
     write_rectangle(writer, "signals", area)
 }
 
-// A box of a class.
+// Writes a box of a class.
 fn write_rectangle<W: Write>(writer: &mut W, class: &str, area: Area) -> io::Result<()> {
     let left = area.middle.saturating_sub(area.half);
     let top = area.top;
@@ -100,7 +100,7 @@ fn write_rectangle<W: Write>(writer: &mut W, class: &str, area: Area) -> io::Res
     )
 }
 
-// The beginning of a box's text.
+// Writes the beginning of a box's text.
 fn write_label<W: Write>(writer: &mut W, area: Area, class: &str) -> io::Result<()> {
     let middle = area.middle;
     let line = area.top.saturating_add(BASELINE);
@@ -121,7 +121,7 @@ pub fn write_arrow<W: Write>(writer: &mut W, arrow: Arrow) -> io::Result<()> {
     write_tip(writer, arrow)
 }
 
-/// Writes the arrow of a call, which is drawn before the boxes, so that it goes through behind them.
+/// Writes the arrow of a notification. It is drawn before the boxes, so that they cover it.
 pub fn write_call_arrow<W: Write>(writer: &mut W, from: u64, to: u64, y: u64) -> io::Result<()> {
     let rightward = from < to;
     let neck = moved(to, 8, !rightward);
@@ -133,7 +133,7 @@ pub fn write_call_arrow<W: Write>(writer: &mut W, from: u64, to: u64, y: u64) ->
     )
 }
 
-/// A point so far to the right of another, or to the left.
+/// Returns the point at this distance to the right of another, or to the left.
 pub fn moved(x: u64, distance: u64, rightward: bool) -> u64 {
     if rightward {
         x.saturating_add(distance)
@@ -142,7 +142,7 @@ pub fn moved(x: u64, distance: u64, rightward: bool) -> u64 {
     }
 }
 
-// A level line of a class.
+// Writes a level line of a class.
 fn write_shaft<W: Write>(
     writer: &mut W,
     class: &str,
@@ -153,7 +153,7 @@ fn write_shaft<W: Write>(
     write!(writer, "<path class=\"{class}\" d=\"M{from} {y}H{to}\"/>")
 }
 
-// The head of an arrow.
+// Writes the head of an arrow.
 fn write_tip<W: Write>(writer: &mut W, arrow: Arrow) -> io::Result<()> {
     let back = if arrow.from < arrow.to { "-9" } else { "9" };
     let to = arrow.to;
@@ -161,7 +161,7 @@ fn write_tip<W: Write>(writer: &mut W, arrow: Arrow) -> io::Result<()> {
     write!(writer, "<path d=\"M{to} {y}l{back}-5v10z\"/>\n")
 }
 
-/// Writes the dot of a place that went out.
+/// Writes the dot of a place that left.
 pub fn write_dot<W: Write>(writer: &mut W, x: u64, y: u64) -> io::Result<()> {
     write!(writer, "<circle cx=\"{x}\" cy=\"{y}\" r=\"4\"/>\n")
 }

@@ -3,18 +3,19 @@ ghost use Rattle.std.specs.Prelude.{◌≡◌, ◌≤◌, IfOk};
 ghost use Rattle.script_picture.specs.Shown.{DoesDuring};
 
 use crate::chart::{Chart, Lane};
-use crate::frame::{Track, row_top};
+use crate::frame::{Frame, Track};
 use crate::shapes::{Area, write_box};
 use std::io;
 use std::io::Write;
 
-/// How far a lane has its boxes: beside all rows before this one. Only `write_span` takes it further.
+/// The rows for which a lane has its boxes: all before this one, of which those outside the frame aren't drawn. Only
+/// `write_span` moves it.
 #[derive(Clone, Copy)]
 pub struct Boxed {
     row: u64,
 }
 
-/// What a place does after each row from where its boxes end, up to another.
+/// What a place does after each row from the end of its boxes up to another row.
 #[derive(Clone, Copy)]
 pub struct Span {
     /// What the place does.
@@ -24,7 +25,7 @@ pub struct Span {
 }
 
 impl Boxed {
-    /// No row has a box yet.
+    /// Creates the value of a lane in which no row has a box yet.
     pub fn nothing() -> Boxed
         ensures { result.row ≡ 0 }
     {
@@ -32,10 +33,12 @@ impl Boxed {
     }
 }
 
-/// Writes the box of what a place does, below its others. The chart is there for the clause: the place does this after
-/// each row that the box is beside.
+/// Writes the box of what a place does, below its other boxes. The box is beside those of the span's rows that the
+/// frame shows, and isn't written if there are none. The chart is a parameter for the clause: the place does this after
+/// each row of the span.
 pub fn write_span<W: Write>(
     writer: &mut W,
+    frame: &Frame,
     chart: &Chart,
     track: Track,
     boxed: Boxed,
@@ -45,14 +48,16 @@ pub fn write_span<W: Write>(
     requires does { DoesDuring chart.now track.place span.lane boxed.row span.end }
     ensures { IfOk result (λ b. b.row ≡ span.end) }
 {
-    let top = row_top(boxed.row);
-    let height = row_top(span.end).saturating_sub(top);
-    let area = Area {
-        middle: track.middle,
-        half: track.half,
-        top: top.saturating_add(3),
-        height: height.saturating_sub(6),
-    };
-    write_box(writer, span.lane, area)?;
+    let top = frame.row_top(boxed.row);
+    let height = frame.row_top(span.end).saturating_sub(top);
+    if height > 0 {
+        let area = Area {
+            middle: track.middle,
+            half: track.half,
+            top: top.saturating_add(3),
+            height: height.saturating_sub(6),
+        };
+        write_box(writer, span.lane, area)?;
+    }
     Ok(Boxed { row: span.end })
 }

@@ -1,4 +1,4 @@
-//! The chart as an SVG.
+//! The SVG of a chart.
 ghost use Rattle.std.specs.Prelude.{◌≡◌, IfOk, length};
 ghost use Rattle.script_picture.specs.Shown.{IsTold};
 
@@ -6,9 +6,10 @@ use crate::about::write_description;
 use crate::calls::{Call, Noted, write_call};
 use crate::chart::{Chart, Lane, Row, advance, caller, does, hand_over, lane_after, outside_lanes};
 use crate::crossings::{Crossed, Crossing, write_crossing};
-use crate::frame::{Frame, HEAD_LINE, MARGIN, ROW, Track, frame_of, row_top};
+use crate::frame::{Frame, HEAD_LINE, MARGIN, ROW, Track, frame_of};
 use crate::legend::write_legend;
 use crate::spans::{Boxed, Span, write_span};
+use crate::steps::Steps;
 use crate::words::{Text, command_text, header_text, idle_text, remark_text};
 use arrayvec::ArrayVec;
 use hoare_script::answers::Answer;
@@ -16,7 +17,7 @@ use hoare_script::lines::Header;
 use std::io;
 use std::io::Write;
 
-// The style sheet: how the classes of shapes and texts look.
+// The style sheet: the looks of each class of shapes and texts.
 const STYLE: &str = "<style>
 text{font-family:ui-monospace,Menlo,Consolas,'DejaVu Sans Mono',monospace;font-size:13px;fill:#1f2328}
 .page{fill:#fff;stroke:#d0d7de}.band{fill:#f6f8fa}.lane{stroke:#8c959f;stroke-dasharray:2 4}
@@ -29,26 +30,26 @@ text{font-family:ui-monospace,Menlo,Consolas,'DejaVu Sans Mono',monospace;font-s
 </style>
 ";
 
-// What is added to it where there are Mesa conditions.
+// The part of the style sheet that is added if there are Mesa conditions.
 const MESA_STYLE: &str = "<style>
 .called{fill:#dafbe1;stroke:#1a7f37;stroke-width:1.5}.call{stroke:#1a7f37;stroke-dasharray:2 2}.tip{fill:#1a7f37}
 </style>
 ";
 
-/// Writes a chart: rows with their steps and remarks, a lane for each place with a box for each thing that it does, and
-/// an arrow for each call and each hand-over. It names nothing outside itself.
-pub fn draw<W: Write>(writer: &mut W, chart: &Chart) -> io::Result<()>
+/// Writes these steps of a chart: rows with their steps and remarks, a lane for each place with a box for each thing
+/// that the place does, and an arrow for each notification and each hand-off. The SVG refers to nothing outside itself.
+pub fn draw<W: Write>(writer: &mut W, chart: &Chart, steps: Steps) -> io::Result<()>
     requires { IsTold chart.now }
 {
-    let frame = frame_of(chart);
+    let frame = frame_of(chart, steps);
     write_ground(writer, &frame, chart)?;
     write_calls(writer, &frame, chart)?;
     write_shapes(writer, &frame, chart)?;
-    write_legend(writer, row_top(frame.rows), chart.header.mesa)?;
+    write_legend(writer, frame.bottom(), chart.header.mesa)?;
     writer.write_all(b"</svg>\n")
 }
 
-// What stands below the boxes: the page with its texts, and the lanes.
+// Writes what the boxes cover: the page with its texts, and the lanes.
 fn write_ground<W: Write>(writer: &mut W, frame: &Frame, chart: &Chart) -> io::Result<()> {
     write_opening(writer, frame)?;
     write_description(writer, frame, chart)?;
@@ -57,7 +58,7 @@ fn write_ground<W: Write>(writer: &mut W, frame: &Frame, chart: &Chart) -> io::R
     write_lanes(writer, frame)
 }
 
-// The tag.
+// Writes the opening tag.
 fn write_opening<W: Write>(writer: &mut W, frame: &Frame) -> io::Result<()> {
     let width = frame.width;
     let height = frame.height;
@@ -69,7 +70,7 @@ fn write_opening<W: Write>(writer: &mut W, frame: &Frame) -> io::Result<()> {
     writer.write_all(b" role=\"img\" aria-labelledby=\"title\" aria-describedby=\"about\">\n")
 }
 
-// The styles, the white page, and what stands over the steps and the remarks.
+// Writes the styles, the white page, and the texts above the steps and the remarks.
 fn write_head<W: Write>(writer: &mut W, frame: &Frame, header: Header) -> io::Result<()> {
     writer.write_all(STYLE.as_bytes())?;
     if header.mesa > 0 {
@@ -93,7 +94,7 @@ fn write_page<W: Write>(writer: &mut W, frame: &Frame) -> io::Result<()> {
     )
 }
 
-// A text of a class that begins here.
+// Writes a text of a class that begins at `x`, on the base line `line`.
 fn write_text<W: Write>(
     writer: &mut W,
     class: &str,
@@ -106,10 +107,11 @@ fn write_text<W: Write>(
     writer.write_all(b"</text>\n")
 }
 
-// Each row's band, step and remark.
+// Writes the band, step and remark of each shown row.
 fn write_rows<W: Write>(writer: &mut W, frame: &Frame, chart: &Chart) -> io::Result<()> {
-    for (i, row) in chart.rows.iter().enumerate() {
-        let top = row_top(i as u64);
+    let rows = frame.shown.among(chart.rows.as_slice());
+    for (i, row) in rows.iter().enumerate() {
+        let top = frame.row_top(frame.shown.before.saturating_add(i as u64));
         if i % 2 == 0 {
             write_band(writer, frame, top)?;
         }
@@ -126,7 +128,7 @@ fn write_band<W: Write>(writer: &mut W, frame: &Frame, top: u64) -> io::Result<(
     )
 }
 
-// A row's step and remark, on a line of text.
+// Writes a row's step and remark, on the base line `line`.
 fn write_row<W: Write>(writer: &mut W, frame: &Frame, line: u64, row: Row) -> io::Result<()> {
     let class = class_of(row.answer);
     write_text(writer, class, MARGIN, line, command_text(row.command))?;
@@ -137,7 +139,7 @@ fn write_row<W: Write>(writer: &mut W, frame: &Frame, line: u64, row: Row) -> io
     write_text(writer, class, frame.remarks, line, remark)
 }
 
-// The class of a row's texts.
+// Returns the class of a row's texts.
 fn class_of(answer: Answer) -> &'static str {
     match answer {
         Answer::Refused(_) => "refused",
@@ -145,10 +147,10 @@ fn class_of(answer: Answer) -> &'static str {
     }
 }
 
-// The lanes, with the places' numbers over them.
+// Writes the lanes, with the places' numbers above them.
 fn write_lanes<W: Write>(writer: &mut W, frame: &Frame) -> io::Result<()> {
-    let top = row_top(0);
-    let bottom = row_top(frame.rows);
+    let top = frame.row_top(0);
+    let bottom = frame.bottom();
     for track in frame.tracks.as_slice() {
         write_place(writer, *track)?;
         write_lane(writer, track.middle, top, bottom)?;
@@ -169,7 +171,7 @@ fn write_lane<W: Write>(writer: &mut W, x: u64, top: u64, bottom: u64) -> io::Re
     write!(writer, "<path class=\"lane\" d=\"M{x} {top}V{bottom}\"/>\n")
 }
 
-// The arrows of calls, lane by lane.
+// Writes the arrows of notifications, lane by lane.
 fn write_calls<W: Write>(writer: &mut W, frame: &Frame, chart: &Chart) -> io::Result<()>
     requires { IsTold chart.now }
 {
@@ -179,7 +181,7 @@ fn write_calls<W: Write>(writer: &mut W, frame: &Frame, chart: &Chart) -> io::Re
     Ok(())
 }
 
-// An arrow for each call of a place: no row that calls it is passed over.
+// Writes an arrow for each notification of a place: no row that notifies it is passed over.
 fn write_lane_calls<W: Write>(
     writer: &mut W,
     frame: &Frame,
@@ -202,8 +204,8 @@ fn write_lane_calls<W: Write>(
     Ok(noted)
 }
 
-// The boxes, and the arrows of hand-overs. Where there are Mesa conditions these go through behind the boxes: the
-// number of each that is called changes with a hand-over, so that its next box begins beside the arrow.
+// Writes the boxes, and the arrows of hand-offs. If there are Mesa conditions, the boxes cover these arrows: with a
+// hand-off the number of each notified process changes, so its next box begins beside the arrow.
 fn write_shapes<W: Write>(writer: &mut W, frame: &Frame, chart: &Chart) -> io::Result<()>
     requires { IsTold chart.now }
 {
@@ -217,18 +219,23 @@ fn write_shapes<W: Write>(writer: &mut W, frame: &Frame, chart: &Chart) -> io::R
     Ok(())
 }
 
-// The boxes, lane by lane.
+// Writes the boxes, lane by lane.
 fn write_boxes<W: Write>(writer: &mut W, frame: &Frame, chart: &Chart) -> io::Result<()>
     requires { IsTold chart.now }
 {
     for track in frame.tracks.as_slice() {
-        let _boxed = write_lane_boxes(writer, chart, *track)?;
+        let _boxed = write_lane_boxes(writer, frame, chart, *track)?;
     }
     Ok(())
 }
 
-// A box for each thing that a place does, as long as it does it: they stand beside all rows.
-fn write_lane_boxes<W: Write>(writer: &mut W, chart: &Chart, track: Track) -> io::Result<Boxed>
+// Writes a box for each thing that a place does, beside the rows after which it does that: no row is left out.
+fn write_lane_boxes<W: Write>(
+    writer: &mut W,
+    frame: &Frame,
+    chart: &Chart,
+    track: Track,
+) -> io::Result<Boxed>
     requires { IsTold chart.now }
     ensures { IfOk result (λ boxed. boxed.row ≡ length chart.now.rows.items) }
 {
@@ -238,15 +245,15 @@ fn write_lane_boxes<W: Write>(writer: &mut W, chart: &Chart, track: Track) -> io
         let end = i as u64;
         let after = lane_after(*row, track.place, lane);
         if after != lane {
-            boxed = write_span(writer, chart, track, boxed, Span { lane, end })?;
+            boxed = write_span(writer, frame, chart, track, boxed, Span { lane, end })?;
         }
         lane = after;
     }
     let end = chart.rows.len() as u64;
-    write_span(writer, chart, track, boxed, Span { lane, end })
+    write_span(writer, frame, chart, track, boxed, Span { lane, end })
 }
 
-// An arrow for each hand-over: no row that hands over is passed over.
+// Writes an arrow for each hand-off: no row that hands off is passed over.
 fn write_arrows<W: Write>(writer: &mut W, frame: &Frame, chart: &Chart) -> io::Result<Crossed>
     requires { IsTold chart.now }
     ensures { IfOk result (λ crossed. crossed.row ≡ length chart.now.rows.items) }

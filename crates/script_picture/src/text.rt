@@ -1,9 +1,10 @@
 //! The chart as text: a row for each step, a lane for each place that isn't idle. Lanes that a terminal has no room for
-//! follow in further blocks below, each with all steps.
+//! are in further blocks below, each with all steps.
 ghost use Rattle.script_picture.specs.Shown.{IsShownAfter, IsTold};
 
 use crate::calls::{Callers, callers_of};
 use crate::chart::{Chart, HandOver, Lanes, Row, advance, hand_over, lane_of, outside_lanes};
+use crate::steps::ALL_STEPS;
 use crate::widths::{Column, Widths, widths_of};
 use crate::words::{
     Text, command_text, header_text, idle_text, lane_text, place_text, remark_text,
@@ -12,16 +13,16 @@ use arrayvec::ArrayVec;
 use std::io;
 use std::io::Write;
 
-/// The length that a line keeps to, where a step and one lane have room in it.
+/// The most columns of a line, unless one lane beside the steps takes more.
 const TERMINAL: usize = 80;
 
-/// The room between two lanes.
+/// The room between two lanes, in columns.
 const GAP: usize = 4;
 
-/// The room for an arrow to the next block.
+/// The room for an arrow to the next block, in columns.
 const ARROW: usize = 3;
 
-/// Lanes that stand side by side: the columns from one up to another, and how long a line with them is.
+/// Lanes side by side: the columns from `first` up to `end`, which isn't included, and the length of a line with them.
 #[derive(Clone, Copy, Debug, Default, PartialEq, Eq)]
 struct Block {
     first: usize,
@@ -29,7 +30,7 @@ struct Block {
     length: usize,
 }
 
-/// Which part of an arrow goes through the gap between two lanes.
+/// Which part of an arrow crosses the gap between two lanes.
 #[derive(Clone, Copy, Debug, PartialEq, Eq)]
 enum Part {
     Leftward,
@@ -38,27 +39,28 @@ enum Part {
     RightHead,
 }
 
-/// An arrow in a gap, and the letter of its line: `-` in a hand-over, `~` in a call.
+/// An arrow in a gap, and the letter of its line: `-` for a hand-off, `~` for a notification.
 #[derive(Clone, Copy, Debug, PartialEq, Eq)]
 struct Shaft {
     part: Part,
     line: u8,
 }
 
-/// The arrows of a row: its hand-over, and who calls each place.
+/// The arrows of a row: its hand-off, and for each place the place that notifies it.
 #[derive(Drop)]
 struct Arrows {
     over: Option<HandOver>,
     callers: Callers,
 }
 
-/// Writes a chart: the header with the places' numbers, and a row for each command; and so again for each further
-/// block, after an empty line. What the lanes don't show stands in the last block, below its step where the line has no
-/// room for it.
+/// Writes a chart: the header with the places' numbers, and a row for each command. Each further block follows after an
+/// empty line and has the same rows. The remarks, which the lanes don't show, are in the last block: at the end of the
+/// line, or below the step if the line has no room.
 pub fn draw<W: Write>(writer: &mut W, chart: &Chart) -> io::Result<()>
     requires { IsTold chart.now }
 {
-    let widths = widths_of(chart);
+    let shown = ALL_STEPS.among(chart.rows.len() as u64);
+    let widths = widths_of(chart, shown);
     for block in blocks_of(&widths).as_slice() {
         if block.first > 0 {
             writer.write_all(b"\n")?;
@@ -68,7 +70,7 @@ pub fn draw<W: Write>(writer: &mut W, chart: &Chart) -> io::Result<()>
     Ok(())
 }
 
-// As many lanes side by side as there is room for, and at least one.
+// Returns the blocks: each has as many lanes side by side as a line has room for, and at least one.
 fn blocks_of(widths: &Widths) -> ArrayVec<Block, 65> {
     let mut blocks = ArrayVec::new();
     let mut block = Block {
@@ -90,7 +92,7 @@ fn blocks_of(widths: &Widths) -> ArrayVec<Block, 65> {
     blocks
 }
 
-// The head and all rows, with the lanes of a block.
+// Writes the head and all rows, with the lanes of a block.
 fn write_block<W: Write>(
     writer: &mut W,
     chart: &Chart,
@@ -112,7 +114,7 @@ fn write_block<W: Write>(
     Ok(())
 }
 
-// The header, and the places' numbers over their lanes.
+// Writes the header, and the places' numbers above their lanes.
 fn write_head<W: Write>(
     writer: &mut W,
     chart: &Chart,
@@ -128,7 +130,7 @@ fn write_head<W: Write>(
     write_end(writer, widths, block, room, None, idle_text(widths.idle))
 }
 
-// A command, what each place does after it, and what else it was answered.
+// Writes a command, what each place does after it, and the remark.
 fn write_row<W: Write>(
     writer: &mut W,
     widths: &Widths,
@@ -153,19 +155,19 @@ fn write_row<W: Write>(
     write_end(writer, widths, block, room, shaft, remark_text(row.answer))
 }
 
-// A column, or none of any width past the last.
+// Returns a column, or an empty one past the last.
 fn column_at(widths: &Widths, i: usize) -> Column {
     let columns = widths.columns.as_slice();
     columns.get(i).copied().unwrap_or_default()
 }
 
-// A text, and the room that it leaves in a width.
+// Writes a text. Returns the room that it leaves in a width.
 fn write_cell<W: Write>(writer: &mut W, text: Text, width: usize) -> io::Result<usize> {
     writer.write_all(text.as_slice())?;
     Ok(width.saturating_sub(text.len()))
 }
 
-// How an arrow goes through the gap before a column, if it does.
+// Returns how an arrow crosses the gap before a column, if one does.
 fn shaft_before(widths: &Widths, i: usize, arrows: &Arrows) -> Option<Shaft> {
     let columns = widths.columns.as_slice();
     let left = columns.get(i.checked_sub(1)?)?.place;
@@ -178,8 +180,8 @@ fn shaft_before(widths: &Widths, i: usize, arrows: &Arrows) -> Option<Shaft> {
     Some(Shaft { part, line: b'-' })
 }
 
-// Which part of the arrows of a row's calls goes through the gap between the lanes of two places, if one does: a head,
-// where one of them ends there.
+// Returns which part of the arrows of a row's notifications crosses the gap between the lanes of two places, if one
+// does: a head, if one of them ends there.
 fn called_between(left: u64, right: u64, callers: &Callers) -> Option<Part> {
     let mut part = None;
     for (to, from) in callers.as_slice().iter().enumerate() {
@@ -197,7 +199,8 @@ fn is_head(part: Option<Part>) -> bool {
     matches!(part, Some(Part::LeftHead) | Some(Part::RightHead))
 }
 
-// Which part of an arrow goes through the gap between the lanes of two places, if one does.
+// Returns which part of the arrow from one place to another crosses the gap between the lanes of two places, if it
+// does.
 fn part_between(left: u64, right: u64, from: u64, to: u64) -> Option<Part> {
     if from <= left && right <= to {
         return Some(if right == to {
@@ -216,7 +219,7 @@ fn part_between(left: u64, right: u64, from: u64, to: u64) -> Option<Part> {
     None
 }
 
-// The gap between two lanes, with the room that was left before it, and the arrow that goes through it.
+// Writes the gap between two lanes, with the room that was left before it, and the arrow that crosses it.
 fn write_gap<W: Write>(writer: &mut W, room: usize, shaft: Option<Shaft>) -> io::Result<()> {
     if let Some(shaft) = shaft {
         write_shaft(writer, room, shaft)?;
@@ -225,7 +228,7 @@ fn write_gap<W: Write>(writer: &mut W, room: usize, shaft: Option<Shaft>) -> io:
     write_times(writer, b" ", room.saturating_add(GAP))
 }
 
-// An arrow, after a space.
+// Writes an arrow, after a space.
 fn write_shaft<W: Write>(writer: &mut W, room: usize, shaft: Shaft) -> io::Result<()> {
     let line = [shaft.line];
     writer.write_all(b" ")?;
@@ -242,7 +245,7 @@ fn write_shaft<W: Write>(writer: &mut W, room: usize, shaft: Shaft) -> io::Resul
     })
 }
 
-// The end of a line: the arrow to the next block, or a remark.
+// Writes the end of a line: the arrow to the next block, or a remark.
 fn write_end<W: Write>(
     writer: &mut W,
     widths: &Widths,
@@ -259,7 +262,7 @@ fn write_end<W: Write>(
     writer.write_all(b"\n")
 }
 
-// A remark behind the lanes, or on a line of its own.
+// Writes a remark at the right of the lanes, or on a line of its own.
 fn write_remark<W: Write>(
     writer: &mut W,
     block: Block,

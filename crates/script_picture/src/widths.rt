@@ -1,47 +1,54 @@
 //! Which lanes a picture shows, and how much room its texts take.
 use crate::chart::{Chart, Lane, Lanes, Row, advance, outside_lanes};
+use crate::steps::Shown;
 use crate::words::{command_text, header_text, idle_text, lane_text, place_text, remark_text};
 use arrayvec::ArrayVec;
 
-/// A place whose lane is shown, with the length of the longest text in that lane, in bytes.
+/// A place whose lane is shown, with the length of the longest text in that lane.
 #[derive(Clone, Copy, Debug, Default, PartialEq, Eq)]
 pub struct Column {
     /// The place's number.
     pub place: u64,
-    /// The length of the longest text in its lane, its number included, in bytes.
+    /// The length of the longest text in its lane, including its number, in bytes.
     pub width: usize,
 }
 
-/// The columns of a chart, by rising places. A place that is outside after every row is idle, and has none.
+/// The columns of the shown rows of a chart, by rising places. A place that is outside before the first of them and
+/// after each of them is idle, and has no column.
 pub type Columns = ArrayVec<Column, 64>;
 
-/// The longest step, the columns, how many places are idle, and the longest remark. Lengths are in bytes.
+/// The columns, and the room for the other texts. Lengths are in bytes.
 #[derive(Drop)]
 pub struct Widths {
     /// The length of the longest step or of the header, in bytes.
     pub steps: usize,
     /// The lanes that are shown.
     pub columns: Columns,
-    /// How many places are idle, and have no lane.
+    /// The number of places that are idle, and have no lane.
     pub idle: u64,
     /// The length of the longest remark or of the note on idle places, in bytes.
     pub remarks: usize,
 }
 
-// The longest text of each place's lane; 0 as long as the place is outside.
+// The length of the longest text of each place's lane, in bytes, or 0 if the place was always outside.
 type Longest = ArrayVec<usize, 64>;
 
-/// The widths that all rows have room in.
-pub fn widths_of(chart: &Chart) -> Widths {
+/// Returns the widths that the shown rows of a chart have room in, with what the places did before the first of them.
+pub fn widths_of(chart: &Chart, shown: Shown) -> Widths {
     let mut steps = header_text(chart.header).len();
     let mut remarks: usize = 0;
     let mut longest = none_yet(chart);
     let mut lanes = outside_lanes(chart.header);
-    for row in chart.rows.iter() {
+    for (i, row) in chart.rows.iter().enumerate() {
+        let is_shown = shown.has(i as u64);
         advance(lanes.as_mut_slice(), *row);
-        widen(&mut longest, &lanes);
-        steps = steps.max(command_text(row.command).len());
-        remarks = remarks.max(remark_width(*row));
+        if is_shown || shown.has((i as u64).saturating_add(1)) {
+            widen(&mut longest, &lanes);
+        }
+        if is_shown {
+            steps = steps.max(command_text(row.command).len());
+            remarks = remarks.max(remark_width(*row));
+        }
     }
     let columns = columns_of(&longest);
     let idle = chart.header.places.saturating_sub(columns.len() as u64);
@@ -61,7 +68,7 @@ fn none_yet(chart: &Chart) -> Longest {
     longest
 }
 
-// Takes the lanes of a row into account.
+// Makes room for the texts of these lanes.
 fn widen(longest: &mut Longest, lanes: &Lanes) {
     for (length, lane) in longest.as_mut_slice().iter_mut().zip(lanes.as_slice()) {
         if *lane != Lane::Outside {
@@ -70,7 +77,7 @@ fn widen(longest: &mut Longest, lanes: &Lanes) {
     }
 }
 
-// The columns of the places that weren't outside all the time. Each has room for its place's number.
+// Returns the columns of the places that weren't always outside. Each has room for its place's number.
 fn columns_of(longest: &Longest) -> Columns {
     let mut columns = ArrayVec::new();
     for (place, length) in longest.as_slice().iter().enumerate() {

@@ -1,4 +1,4 @@
-//! How commands, lanes and answers are spelled.
+//! The spelling of commands, lanes and answers.
 use crate::chart::Lane;
 use arrayvec::ArrayVec;
 use hoare_script::answers::{Answer, answer_line};
@@ -10,7 +10,7 @@ use wait_book::steps::Step;
 /// Room for the longest of these texts.
 pub type Text = ArrayVec<u8, 128>;
 
-// A word, and numbers after single spaces.
+// Returns a word, followed by numbers after single spaces.
 fn spelled(word: &[u8], numbers: &[u64]) -> Text {
     let mut text = ArrayVec::new();
     let _ = text.try_extend_from_slice(word);
@@ -26,7 +26,7 @@ fn append_number(text: &mut Text, number: u64) {
     let _ = text.try_extend_from_slice(buffer.format(number).as_bytes());
 }
 
-/// The line that spells a header.
+/// Returns the line that spells a header.
 pub fn header_text(header: Header) -> Text {
     if header.mesa == 0 {
         return spelled(b"monitor", &[header.places, header.conditions]);
@@ -34,7 +34,7 @@ pub fn header_text(header: Header) -> Text {
     spelled(b"monitor", &[header.places, header.conditions, header.mesa])
 }
 
-/// The line that spells a command.
+/// Returns the line that spells a command.
 pub fn command_text(command: Command) -> Text {
     match command {
         Command::Do(Step::Enter(place)) => spelled(b"enter", &[place]),
@@ -53,8 +53,8 @@ pub fn command_text(command: Command) -> Text {
     }
 }
 
-/// What a lane shows: `.`, `[in]`, `sig`, `called N` for the N-th of the called, or `cC:P` for a wait on condition C
-/// with priority P.
+/// Returns what a lane shows: `.`, `[in]`, `sig`, `called N` for the N-th of the notified processes, or `cC:P` for a
+/// wait on condition C with priority P.
 pub fn lane_text(lane: Lane) -> Text {
     let mut text = ArrayVec::new();
     match lane {
@@ -81,14 +81,14 @@ pub fn lane_text(lane: Lane) -> Text {
     text
 }
 
-/// A place's number.
+/// Returns the spelling of a place's number.
 pub fn place_text(place: u64) -> Text {
     let mut text = ArrayVec::new();
     append_number(&mut text, place);
     text
 }
 
-/// How many places are idle, or nothing where none is.
+/// Returns how many places are idle, or an empty text if there are none.
 pub fn idle_text(idle: u64) -> Text {
     let mut text = ArrayVec::new();
     if idle > 0 {
@@ -97,8 +97,8 @@ pub fn idle_text(idle: u64) -> Text {
     text
 }
 
-/// What a row shows beside its lanes: `-> ANSWER`, and why a step is refused. Nothing where a place is inside, since
-/// the lanes show that.
+/// Returns what a row shows beside its lanes: `-> ANSWER`, and why a step is refused. The text is empty if a place is
+/// inside, since the lanes show that.
 pub fn remark_text(answer: Answer) -> Text {
     let mut text = ArrayVec::new();
     if let Answer::Inside(_) = answer {

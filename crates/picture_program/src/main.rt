@@ -1,10 +1,16 @@
-//! Draws a script from standard input: an SVG on standard output, or with `--text` a chart for a terminal.
+//! Draws a script from standard input: an SVG on standard output, or with `--text` a chart for a terminal. `--from N`
+//! and `--to N` choose the steps of an SVG.
 #![tactic(auto)]
+
+mod request;
+#[cfg(test)]
+mod tests;
 
 ghost use Rattle.std.specs.Prelude.{◌≡◌};
 ghost use Rattle.std.specs.Process.{exit_status};
 ghost use Rattle.script_picture.specs.Faults.{status_after};
 
+use crate::request::form_of;
 use hoare_script::ScriptFault;
 use script_picture::{Form, PictureFault, draw_script};
 use std::io::{BufReader, BufWriter};
@@ -21,7 +27,8 @@ fn main(rt: HostRuntime) -> ExitCode {
         }
         Ok(None) => {
             let _ = eprintln!(rt;
-                "usage: script_picture [--text] < SCRIPT (an SVG of at most 1164 steps, or a chart)"
+                "usage: script_picture [--text] | [--from N] [--to N] < SCRIPT \
+                (an SVG of at most 1164 steps, or a chart)"
             );
             ExitCode::from(2)
         }
@@ -29,7 +36,7 @@ fn main(rt: HostRuntime) -> ExitCode {
     }
 }
 
-// The form that the arguments ask for, if they are right. An argument that is no text is as wrong as any other.
+// Returns the form that the arguments ask for, or `None` if they are wrong. An argument that is no text is wrong.
 fn asked_form(rt: &HostRuntime) -> Result<Option<Form>, PictureFault> {
     let mut words = match env::args(rt) {
         Ok(words) => words,
@@ -39,16 +46,13 @@ fn asked_form(rt: &HostRuntime) -> Result<Option<Form>, PictureFault> {
         Err(_) => return Ok(None),
     };
     let _name = words.next();
-    let Some(word) = words.next() else {
-        return Ok(Some(Form::Svg));
-    };
-    if word.as_str() == "--text" && words.next().is_none() {
-        return Ok(Some(Form::Text));
+    match words.collect::<Vec<String>>(rt.alloc()) {
+        Ok(words) => Ok(form_of(words.as_slice())),
+        Err(_) => Err(OUT_OF_MEMORY),
     }
-    Ok(None)
 }
 
-// Reads and writes ahead, so that a byte isn't a call of the system.
+// Draws standard input to standard output. Both are buffered, so that a byte isn't a system call.
 fn draw_input(rt: &HostRuntime, form: Form) -> Result<(), PictureFault> {
     let Ok(mut reader) = BufReader::with_capacity(rt.alloc(), 65_536, rt.stdin()) else {
         return Err(OUT_OF_MEMORY);
@@ -59,7 +63,7 @@ fn draw_input(rt: &HostRuntime, form: Form) -> Result<(), PictureFault> {
     draw_script(rt.alloc(), &mut reader, &mut writer, form)
 }
 
-// The exit code, with a fault told on standard error.
+// Returns the exit code. A fault's line is written to standard error.
 fn tell<R: Eprint>(rt: &R, end: Result<(), PictureFault>) -> ExitCode
     ensures { exit_status result ≡ status_after end }
 {

@@ -1,5 +1,6 @@
 //! Tests of how scripts are drawn, and of how they end.
 mod charts;
+mod cuts;
 mod faults;
 mod large;
 mod svgs;
@@ -56,6 +57,13 @@ fn times(text: &[u8], part: &[u8]) -> usize {
         }
     }
     found
+}
+
+// Fails unless each of these parts occurs exactly once in a picture.
+fn stand_once<R: Abort>(rt: &R, picture: &[u8], parts: &[&str]) {
+    for part in parts {
+        expect_same(rt, (*part, times(picture, part.as_bytes())), (*part, 1));
+    }
 }
 
 // Adds steps by which all 64 places enter and wait. The priority is the greatest, or 7 for all places but place 0

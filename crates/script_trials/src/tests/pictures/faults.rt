@@ -7,6 +7,7 @@ use crate::tests::streams::{Breaking, Filling};
 use hoare_script::ScriptFault;
 use script_picture::fault::PictureFault;
 use script_picture::picture::{Form, draw_script};
+use script_picture::steps::ALL_STEPS;
 use std::process::Abort;
 
 // The height is 64 + 28 * 1,164 + 104 = 32,760, and with one more row it is over 32,767. A picture that is too tall
@@ -14,7 +15,7 @@ use std::process::Abort;
 #[test]
 fn too_tall_for_an_svg(rt: HostRuntime) {
     let tallest = repeated(&rt, b"monitor 1 1\n", b"leave 0\n", 1_164);
-    let text = drawn_whole(&rt, tallest.as_slice(), Form::Svg);
+    let text = drawn_whole(&rt, tallest.as_slice(), Form::Svg(ALL_STEPS));
     expect_same(&rt, times(text.as_slice(), b" height=\"32760\" "), 1);
     let taller = repeated(&rt, b"monitor 1 1\n", b"leave 0\n", 1_165);
     isnt_begun(&rt, taller.as_slice(), PictureFault::TooTall(1_165));
@@ -27,7 +28,7 @@ fn too_tall_for_an_svg(rt: HostRuntime) {
 
 // Fails unless an SVG of the script isn't begun, for this reason.
 fn isnt_begun<R: Abort + AllocGlobal>(rt: &R, script: &[u8], fault: PictureFault) {
-    let (result, text) = drawn(rt.alloc(), script, Form::Svg);
+    let (result, text) = drawn(rt.alloc(), script, Form::Svg(ALL_STEPS));
     expect_same(rt, (result, text.as_slice()), (Err(fault), b"".as_slice()));
 }
 
@@ -102,7 +103,7 @@ fn read_fault_after_whole_rows(rt: HostRuntime) {
 
 #[test]
 fn write_fault_of_a_whole_script(rt: HostRuntime) {
-    for form in [Form::Svg, Form::Text] {
+    for form in [Form::Svg(ALL_STEPS), Form::Text] {
         let whole = full_end(&rt, b"monitor 1 1\n", form);
         expect_same(&rt, whole, at_fault(ScriptFault::WriteFault));
         let bad = full_end(&rt, b"monitor 1 1\nenter\n", form);
@@ -135,7 +136,7 @@ const FAULTS: &[(PictureFault, &str, u8)] = &[
     ),
     (
         PictureFault::TooTall(1_165),
-        "fault 9 TooTall steps 1165: an SVG has at most 1164, a chart (--text) any number",
+        "fault 9 TooTall steps 1165: an SVG has at most 1164 (--from and --to choose), a chart (--text) any number",
         4,
     ),
 ];

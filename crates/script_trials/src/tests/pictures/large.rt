@@ -8,6 +8,7 @@ use crate::tests::compared::expect_same;
 use crate::tests::patterns::Part::Number;
 use crate::tests::patterns::add_filled;
 use script_picture::picture::Form;
+use script_picture::steps::ALL_STEPS;
 use std::alloc::AllocError;
 use std::panic::Expect;
 use std::process::Abort;
@@ -77,7 +78,7 @@ fn is_drawn_idle<R: Abort + AllocGlobal>(rt: &R, places: u64, conditions: u64) {
     );
     let text = drawn_whole(rt, script.as_bytes(), Form::Text);
     expect_same(rt, text.as_slice(), chart.as_bytes());
-    let _ = drawn_whole(rt, script.as_bytes(), Form::Svg);
+    let _ = drawn_whole(rt, script.as_bytes(), Form::Svg(ALL_STEPS));
 }
 
 // Each number of places can be drawn: an answer of `Memory` fails.

@@ -1,8 +1,8 @@
 //! Tests against SVGs that were worked out by hand.
-use super::{BROADCAST, HAND_OVER, drawn_whole, sixty_four_waits, times};
+use super::{BROADCAST, HAND_OVER, drawn_whole, sixty_four_waits, stand_once, times};
 use crate::tests::compared::expect_same;
 use script_picture::picture::Form;
-use std::process::Abort;
+use script_picture::steps::ALL_STEPS;
 
 // The whole picture of `HAND_OVER`, worked out by hand from the measures in the README. The longest step has 11 letters
 // of 8 after a margin of 20, and a box of 7 letters is 68 wide. So the lanes are at 20 + 88 + 24 + 34 = 166 and 68 + 44
@@ -75,16 +75,9 @@ text{font-family:ui-monospace,Menlo,Consolas,'DejaVu Sans Mono',monospace;font-s
 </svg>
 ";
 
-// Fails unless each of these parts occurs exactly once in a picture.
-fn stand_once<R: Abort>(rt: &R, picture: &[u8], parts: &[&str]) {
-    for part in parts {
-        expect_same(rt, (*part, times(picture, part.as_bytes())), (*part, 1));
-    }
-}
-
 #[test]
 fn hand_over_as_svg(rt: HostRuntime) {
-    let text = drawn_whole(&rt, HAND_OVER, Form::Svg);
+    let text = drawn_whole(&rt, HAND_OVER, Form::Svg(ALL_STEPS));
     expect_same(&rt, text.as_slice(), HAND_OVER_DRAWN);
 }
 
@@ -135,7 +128,7 @@ fn wide_and_idle_lanes_as_svg(rt: HostRuntime) {
     let script =
         b"monitor 14 1\nenter 13\nwait 13 0 2\nenter 1\nsignal 1 0\nwait 13 0 18446744073709551615\nenter 4\n\
             pass 1 0\nleave 13\n";
-    let text = drawn_whole(&rt, script, Form::Svg);
+    let text = drawn_whole(&rt, script, Form::Svg(ALL_STEPS));
     stand_once(&rt, text.as_slice(), IDLE_LANES);
     expect_same(&rt, times(text.as_slice(), b"class=\"head\""), 2);
 }
@@ -183,7 +176,7 @@ const CALLS: &[&str] = &[
 // first of these is drawn after its head.
 #[test]
 fn broadcast_as_svg(rt: HostRuntime) {
-    let text = drawn_whole(&rt, BROADCAST, Form::Svg);
+    let text = drawn_whole(&rt, BROADCAST, Form::Svg(ALL_STEPS));
     stand_once(&rt, text.as_slice(), CALLS);
     expect_same(&rt, times(text.as_slice(), b"class=\"arrow call\""), 4);
     expect_same(&rt, times(text.as_slice(), b"class=\"called\""), 7);
@@ -198,7 +191,7 @@ fn broadcast_as_svg(rt: HostRuntime) {
 fn widths_of_sixty_four_lanes(rt: HostRuntime) {
     for (greatest, want) in [(false, " width=\"8060\" "), (true, " width=\"16204\" ")] {
         let script = sixty_four_waits(&rt, greatest);
-        let text = drawn_whole(&rt, script.as_bytes(), Form::Svg);
+        let text = drawn_whole(&rt, script.as_bytes(), Form::Svg(ALL_STEPS));
         stand_once(&rt, text.as_slice(), &[want]);
     }
 }

@@ -8,6 +8,7 @@ use crate::tests::patterns::Part::{Number, Word};
 use crate::tests::patterns::add_filled;
 use crate::tests::pictures::{drawn_whole, times};
 use script_picture::picture::Form;
+use script_picture::steps::ALL_STEPS;
 use std::alloc::AllocError;
 use std::panic::Expect;
 
@@ -256,7 +257,7 @@ fn sixty_four_lanes_as_svg(rt: HostRuntime) {
     let script = script(&rt);
     let mut shapes = String::new(rt.alloc());
     add_all(&mut shapes, script.as_str()).expect(&rt, "memory for a text");
-    let picture = drawn_whole(&rt, script.as_bytes(), Form::Svg);
+    let picture = drawn_whole(&rt, script.as_bytes(), Form::Svg(ALL_STEPS));
     let (head, body) = cut(picture.as_slice());
     let legend = body.strip_prefix(shapes.as_bytes());
     expect_same(&rt, legend.is_some(), true);

@@ -1,4 +1,4 @@
--- Who hands the monitor over has it before the row, and who goes on has it after the row.
+-- A place that hands the monitor off has it before the row, and the resumed place has it after the row.
 use Rattle.std.proofs.Common.{◌≡◌, ◌==◌, ◌<◌, ◌+◌, ◌↔◌, ℕ, Bool, true, false, cond, take, List, length, slice_index_or}
 use Rattle.std.proofs.Common.{Option, Some, None, refl, ap, sym, ◌∙◌, subst}
 use Rattle.std.specs.Prelude.{IsTrue}
@@ -37,7 +37,7 @@ between_is k l over is = by (k == l) refl is
     by true e o = absurd (cc)
     by false e o = (e, cc, cc)
 
--- the one that goes on has the turn
+-- the resumed place has the turn
 goes_on : (s : Step) (t : Turn) (over : HandOver) → IsClaimed t → hand_over_answered s (turn_answer t) ≡ Some over
     → ((actor s == over.to) ≡ false) × (actor s ≡ over.from) × (t ≡ Held over.to)
 goes_on s Free over claimed is = absurd (cc)
@@ -47,7 +47,7 @@ goes_on s (Held j) over claimed is =
 goes_on s (Owed j c) over claimed is = absurd claimed
 goes_on s (Return j) over claimed is = absurd claimed
 
--- and the one that acts had it, unless it comes in, and goes on itself
+-- and the acting place had it, unless it enters, and so has the turn itself
 had : (h : Log) (s : Step) (to : ℕ) → refusal_of h s ≡ None → (actor s == to) ≡ false
     → turn (after_step h s).events ≡ Held to → turn h.events ≡ Held (actor s)
 had h (Enter j) to r other is =
@@ -77,7 +77,7 @@ handed h (Do s) over is = handed_by h s (refusal_of h s) over refl is
 handed h (Queue c) over is = absurd (cc)
 handed h (First c) over is = absurd (cc)
 
--- the lane of a place that the monitor has says what the place does
+-- the lane of a place of the monitor says what the place does
 lane_says : (h : Log) (drawn : List Lane) (k : ℕ) (lane : Lane) → k < h.sizes.places → Shows h drawn
     → Does h k lane ↔ (slice_index_or drawn k lanes.Outside ≡ lane)
 lane_says h drawn k lane below shows =
@@ -87,7 +87,7 @@ lane_says h drawn k lane below shows =
 told : (told is : Type 0) (does : Type 0) → told ↔ is → does ↔ is → told ↔ does
 told t i d a b = (λ x. b.1 (a.0 x), λ y. a.1 (b.0 y))
 
--- a row that hands over, between lanes that show what happened before it and after it
+-- a row that hands off, between lanes that show the history before it and after it
 pub HandsOver-between : (c : Chart) (seen : List Row) (i : ℕ) (d : Row) (old new : List Lane) (over : HandOver)
     (returns gone : Bool) → seen ≡ c.rows.items → i < length seen
     → IsTold c → Shows (after_rows (opening c.header) (take i c.rows.items)) old
@@ -128,7 +128,7 @@ HandsOver-between c seen i d old new over returns gone seen_is below is_told bef
           (lane_says _ new over.from lanes.Outside (subst (λ (n : ℕ). over.from < n) (sym same) from_below) after);
     }
 
--- a row that hands nothing over
+-- a row without a hand-off
 pub KeepsTurn-at : (c : Chart) (seen : List Row) (i j : ℕ) (d : Row) → seen ≡ c.rows.items → j ≡ i → i < length seen
     → hand_over (slice_index_or seen i d) ≡ None → KeepsTurn c j
 KeepsTurn-at c seen i j d seen_is at below none e =

@@ -1,4 +1,4 @@
--- Who calls is inside before the row, and who is called waits before it and is called after it.
+-- A notifying place is inside before the row; a notified place waits before it and is notified after it.
 use Rattle.std.proofs.Common.{◌≡◌, ◌==◌, ◌<◌, ◌+◌, ℕ, Bool, true, false, cond, take, List, length, slice_index_or}
 use Rattle.std.proofs.Common.{Option, Some, None, refl, ap, sym, ◌∙◌, subst}
 use Rattle.hoare_law.specs.declared.event.Event.TheVariants.{Admit}
@@ -28,7 +28,7 @@ use Rattle.script_picture.proofs.Does.{number_some, uncalled-push, Does-last, Do
 use Rattle.script_picture.proofs.Shown.{Follows, Follows-next, held_test, held_is, Answered-at, Answered-before}
 use Rattle.script_picture.proofs.Shown.{after_rows-next}
 
--- a call is from a wait
+-- before a notification the place waits
 call_waits : (before after : Lane) → is_call before after ≡ true → (c p : ℕ) × (before ≡ lanes.Waiting c p)
 call_waits (lanes.Waiting c p) after is = (c, p, refl)
 call_waits lanes.Outside after is = absurd (cc)
@@ -44,13 +44,13 @@ waiting_called c p lanes.Inside is = absurd (cc)
 waiting_called c p lanes.Signalling is = absurd (cc)
 waiting_called c p (lanes.Waiting d q) is = absurd (cc)
 
--- to what is called
+-- and after it the place is notified
 call_calls : (before after : Lane) → is_call before after ≡ true → (d q n : ℕ) × (after ≡ lanes.Called d q n)
 call_calls before after is =
     let w : (c p : ℕ) × (before ≡ lanes.Waiting c p) = call_waits before after is in
     waiting_called w.0 w.1 after (subst (λ (l : Lane). is_call l after ≡ true) w.2 is)
 
--- a place that goes on as it did isn't called, nor one that comes in
+-- a place that does what it did isn't notified, nor is one that is inside after
 call_itself : (l : Lane) → is_call l l ≡ true → ⊥
 call_itself l is =
     let w = call_waits l l is in let v = call_calls l l is in
@@ -65,7 +65,7 @@ call_beside : (t : Bool) (before after : Lane) → (is_call before after ≡ tru
 call_beside true before after never is = call_inside before is
 call_beside false before after never is = never is
 
--- nor one that has no number afterwards, or had one before
+-- nor is a place that has no number after, or had one before
 call_unnumbered : (l : Lane) → is_call l (lane_beside 0 l) ≡ true → ⊥
 call_unnumbered l is =
     let w = call_waits l _ is in let v = call_calls l _ is in
@@ -78,7 +78,7 @@ call_numbered n l after off same is =
     sym w.2 ∙ same ∙ ap (lane_beside n) w.2
     ∙ ap (λ (b : Bool). cond b (lanes.Waiting w.0 w.1) (lanes.Called w.0 w.1 n)) off in cc
 
--- who comes in calls nobody
+-- an entering place notifies no place
 enter_calls : (h : Log) (j k : ℕ)
     → is_call (lane_of h k) (lane_beside (number_called (with_event h (Admit j tt)).events k) (lane_of h k)) ≡ true → ⊥
 enter_calls h j k is = by (is_among k (called h.events)) refl
@@ -101,7 +101,7 @@ enter_answered n j k before (Held i) never is = call_beside (i == k) before _ (c
 enter_answered n j k before (Owed i c) never is = call_beside (i == k) before _ (call_beside (j == k) before _ never) is
 enter_answered n j k before (Return i) never is = call_beside (i == k) before _ (call_beside (j == k) before _ never) is
 
--- who acts has the turn, if it calls
+-- a place whose step notifies has the turn
 acts : (h : Log) (s : Step) (k : ℕ) → refusal_of h s ≡ None
     → is_call (lane_of h k) (lane_answered s (number_called (after_step h s).events k) k (lane_of h k)
     (turn_answer (turn (after_step h s).events))) ≡ true → turn h.events ≡ Held (actor s)
@@ -114,7 +114,7 @@ acts h (Leave j) k r is = held_is j (turn h.events) (held_test _ _ None r)
 acts h (Notify j c) k r is = held_is j (turn h.events) (held_test _ _ (kind_refusal h true c) r)
 acts h (Broadcast j c) k r is = held_is j (turn h.events) (held_test _ _ (kind_refusal h true c) r)
 
--- a choice that is made
+-- a choice of which the result is known
 made : (t : Bool) (j from : ℕ) → cond t (Some j) None ≡ Some from → (t ≡ true) × (j ≡ from)
 made true j from is = (refl, cc)
 made false j from is = absurd (cc)
@@ -123,11 +123,11 @@ unmade : (t : Bool) (j : ℕ) → cond t (Some j) None ≡ None → t ≡ false
 unmade true j is = absurd (cc)
 unmade false j is = refl
 
--- what a place does after a command, as a row says it that is answered as the history says
+-- what a place does after a command, by a row with the answer by the history
 abbrev lane_said : Log → Command → ℕ → Lane
 lane_said h c k = lane_commanded c (number_called (history_after h c).events k) k (lane_of h k) (answer_to h c)
 
--- a command by which one is called is of the one inside
+-- a command by which a place is notified is of the place inside
 calls_inside : (h : Log) (c : Command) (k from : ℕ)
     → caller_commanded c (lane_of h k) (lane_said h c k) ≡ Some from
     → (turn h.events ≡ Held from) × (is_call (lane_of h k) (lane_said h c k) ≡ true)
@@ -146,7 +146,7 @@ calls_inside h (Do s) k from is =
 calls_inside h (Queue c) k from is = absurd (cc)
 calls_inside h (First c) k from is = absurd (cc)
 
--- a command by which nobody is called doesn't call
+-- a command without a notifying place notifies no place
 calls_nobody : (c : Command) (k : ℕ) (before : Lane) (row : Row) → row.command ≡ c → caller row k before ≡ None
     → is_call before (lane_after row k before) ≡ true → ⊥
 calls_nobody (Do s) k before row at none call =
@@ -163,7 +163,7 @@ calls_nobody (First c) k before row at none call =
     (λ (x : Command). is_call before (lane_commanded x (slice_index_or row.numbers k 0) k before row.answer))
     (sym at) ∙ call)
 
--- a row that calls, by what its places do before it
+-- a row that notifies a place, by what that place does before it
 pub Calls-at : (c : Chart) (seen : List Row) (i : ℕ) (d : Row) (k : ℕ) (lane : Lane) (from : ℕ) → seen ≡ c.rows.items
     → i < length seen → IsTold c
     → Follows (opening c.header) c.rows.items i k lane → caller (slice_index_or seen i d) k lane ≡ Some from
@@ -209,7 +209,7 @@ Calls-at c seen i d k lane from seen_is below is_told follows calls =
       );
     }
 
--- and one that doesn't
+-- and a row that doesn't
 pub LeavesAlone-at : (c : Chart) (seen : List Row) (i : ℕ) (d : Row) (k : ℕ) (lane : Lane) → seen ≡ c.rows.items
     → i < length seen → IsTold c
     → Follows (opening c.header) c.rows.items i k lane → caller (slice_index_or seen i d) k lane ≡ None

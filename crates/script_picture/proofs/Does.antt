@@ -1,4 +1,4 @@
--- Each place does one thing in a history that a book is of, and its own last event says which.
+-- Each place does one thing in a history that has a book, and its own last event says which.
 use Rattle.std.proofs.Common.{◌≡◌, ◌==◌, ◌<◌, ◌+◌, ◌↔◌, ◌||◌, not, ℕ, suc, zero, Bool, true, false, cond, eqb-true}
 use Rattle.std.proofs.Common.{eq-eqb, arith}
 use Rattle.std.proofs.Common.{List, [], ◌∷◌, ◌++◌, length, slice_index_or, map, Option, Some, None, refl, ap, sym, ◌∙◌}
@@ -46,7 +46,7 @@ Log = History (Unit {0})
 abbrev pub Act : Type 0
 Act = Event (Unit {0})
 
--- what the place of an event does then, by its number among those that were called since: one that waits may be called
+-- what the place of an event does after it, by its number among the notified: a waiter may have been notified since
 abbrev pub lane_by : ℕ → Act → Lane
 lane_by n (Admit k s) = lanes.Inside
 lane_by n (Resume k c s) = lanes.Inside
@@ -62,14 +62,14 @@ abbrev pub lane_last : ℕ → Option Act → Lane
 lane_last n None = lanes.Outside
 lane_last n (Some e) = lane_by n e
 
--- what a place does by its own last event, with this number; and with its number among the called
+-- what a place does by its own last event, with this number; and with its number among the notified
 abbrev pub lane_as : ℕ → Log → ℕ → Lane
 lane_as n h k = lane_last n (newest (own k h.events))
 
 abbrev pub lane_of : Log → ℕ → Lane
 lane_of h k = lane_as (number_called h.events k) h k
 
--- another number changes only what a called place does
+-- another number changes only what a place that began to wait does
 beside_numbered : (n m c p : ℕ) → lane_numbered n c p ≡ lane_beside n (lane_numbered m c p)
 beside_numbered n m c p = by (m == 0)
   where
@@ -77,7 +77,7 @@ beside_numbered n m c p = by (m == 0)
     by true = refl
     by false = refl
 
--- what an event tells of its place: which of the tests of events it passes, and what another number changes
+-- what an event says of its place: by which of the tests of events it passes, and by another number
 record Told (n m : ℕ) (e : Act) : Type 0 where
   inside : is_inside e ≡ true → lanes.Inside ≡ lane_by n e
   signals : is_signal e ≡ true → lanes.Signalling ≡ lane_by n e
@@ -102,7 +102,7 @@ pub lane_beside-last : (n m : ℕ) (o : Option Act) → lane_last n o ≡ lane_b
 lane_beside-last n m None = refl
 lane_beside-last n m (Some e) = (told n m e).beside
 
--- one more event: its place does what it says, and each other as before
+-- after one more event its place does what the event says, and each other place what it did
 pub lane_as-push : (n : ℕ) (h : Log) (e : Act) (k : ℕ)
     → lane_as n (with_event h e) k ≡ cond (place_of e == k) (lane_by n e) (lane_as n h k)
 unfolding with_event
@@ -112,14 +112,14 @@ lane_as-push n h e k = ap (λ (l : List Act). lane_last n (newest l)) (own-push 
     by true = ap (lane_last n) (newest-push (own k h.events) e)
     by false = ap (λ (l : List Act). lane_last n (newest l)) (append-nil (own k h.events))
 
--- who is called
+-- which places are notified
 
--- one of these has the place
+-- one of these events is of the place
 abbrev pub is_among : ℕ → List Act → Bool
 is_among k [] = false
 is_among k (e ∷ es) = place_of e == k || is_among k es
 
--- the number of a place that isn't among these, and of one that is
+-- the number of a place that isn't among these, and of a place that is
 pub number_none : (n k : ℕ) (es : List Act) → is_among k es ≡ false → number_from n k (map place_of es) ≡ 0
 number_none n k [] is = refl
 number_none n k (e ∷ es) is = by (place_of e == k) is (number_none (n + 1) k es)
@@ -140,7 +140,7 @@ number_some n k (e ∷ es) is = by (place_of e == k) is (number_some (n + 1) k e
     by true on rest = grind (arith, nat_tests)
     by false on rest = rest on
 
--- those of another place than j
+-- the events of other places than j
 abbrev pub others : ℕ → List Act → List Act
 others j xs = filter (λ x. not (j == place_of x)) xs
 
@@ -171,7 +171,7 @@ is_among-less j k (x ∷ xs) is = by (place_of x == k) refl is (is_among-less j 
     by true e off rest = absurd (cc)
     by false e off rest = kept (not (j == place_of x)) e (rest off)
 
--- an event that calls nobody
+-- an event that notifies no place
 pub uncalled-push : (h : Log) (e : Act) (k : ℕ) → called_by h.events e ≡ []
     → is_among k (others (place_of e) (called h.events)) ≡ false
     → is_among k (called (with_event h e).events) ≡ false
@@ -181,18 +181,18 @@ uncalled-push h e k nobody off =
     ∙ ap (λ (es : List Act). others (place_of e) (called h.events) ++ es) nobody ∙ append-nil _)
     ∙ off
 
--- whatever a place does, its own last event says it, and whether it is called
+-- what a place does is determined by its own last event and by its number among the notified
 
 out_is : (n : ℕ) (o : Option Act) → is_out o ≡ true → lanes.Outside ≡ lane_last n o
 out_is n None is = refl
 out_is n (Some e) is = (told n n e).out is
 
--- what all pass, one of them passes
+-- a test that all elements pass, each passes
 all_pass : {X : Type 0} (p : X → Bool) (xs : List X) → list_all p xs ≡ true → All (λ x. p x ≡ true) xs
 all_pass p [] is = All-nil (λ x. p x ≡ true)
 all_pass p (x ∷ xs) is = let b = both_true _ _ is in All-cons (λ y. p y ≡ true) x xs b.0 (all_pass p xs b.1)
 
--- a place is among those of which one has it
+-- a place is among events of which one is of that place
 among_at : (k : ℕ) (e : Act) (es : List Act) (i : ℕ) → place_of e ≡ k → i < length es → slice_index_or es i e ≡ e
     → is_among k es ≡ true
 among_at k e [] i mine below at = absurd (omega (arith, below))
@@ -207,14 +207,14 @@ among_at k e (x ∷ es) (suc i) mine below at = by (place_of x == k) (among_at k
 pub among_these : (k : ℕ) (e : Act) (es : List Act) → place_of e ≡ k → Contains es e → is_among k es ≡ true
 among_these k e es mine is = among_at k e es is.0 mine is.1 is.2
 
--- and among none of which all have others
+-- and isn't among events that are all of other places
 pub among_none : (k : ℕ) (es : List Act) → All (λ x. (place_of x == k) ≡ false) es → is_among k es ≡ false
 among_none k [] all = refl
 among_none k (x ∷ es) all =
     ap (λ (b : Bool). b || is_among k es) (All-head (λ y. (place_of y == k) ≡ false) x es all)
     ∙ among_none k es (All-tail (λ y. (place_of y == k) ≡ false) x es all)
 
--- who waits isn't called
+-- a waiting place isn't notified
 waits_uncalled : (h : Log) (k c p : ℕ) → IsLegal h → Contains (waiting c h.events) (Wait k c p tt)
     → is_among k (called h.events) ≡ false
 waits_uncalled h k c p legal d = among_none k (called h.events)
@@ -225,7 +225,7 @@ waits_uncalled h k c p legal d = among_none k (called h.events)
         (All-contains (λ y. not (place_of x == place_of y) ≡ true) (waiting c h.events) (Wait k c p tt)
         (all_pass (λ y. not (place_of x == place_of y)) (waiting c h.events) (was.apart c)) d)
 
--- who is inside does nothing else
+-- a place that is inside does nothing else
 pub inside_last : (h : Log) (k : ℕ) → turn h.events ≡ Held k → lanes.Inside ≡ lane_of h k
 inside_last h k d =
     let n : ℕ = number_called h.events k in
@@ -253,12 +253,12 @@ Does-last h k (lanes.Called c p m) legal d =
     ap (λ (i : ℕ). lanes.Called c p i) d.1
     ∙ sym (ap (λ (b : Bool). cond b (lanes.Waiting c p) (lanes.Called c p n)) some) ∙ ap (lane_last n) (sym w.last)
 
--- a place that is not outside stands in the book
+-- a place that is not outside is in the book
 
 some_of : (n : ℕ) → (n == 0) ≡ false → 0 < n
 some_of n is = grind (arith, nat_tests)
 
--- a place that stands among those who wait, with what holds of them on each condition
+-- a place among the waiters, with what holds of the waiters on each condition
 among_waiters : (P : ℕ → Act → Type 0) (k : ℕ) (ws : List Waiter)
     → ((c : ℕ) → All (P c) (map wait_of (filter (on c) ws))) → 0 < times k (places ws)
     → (w : Waiter) × (w.place ≡ k) × P w.condition (wait_of w)
@@ -297,7 +297,7 @@ among k (u ∷ us) some = by (k == u) refl (λ is. among k us (omega (arith, som
     by true is later = (0, omega arith, sym (eqb-true k u is))
     by false is later = let r : Contains us k = later is in (suc r.0, omega (arith, r.1), r.2)
 
--- a place that stands among those called
+-- a place among the notified
 among_called : (k : ℕ) (ws : List Waiter) → 0 < times k (places ws)
     → (w : Waiter) × (w.place ≡ k) × Contains (map wait_of ws) (wait_of w)
 among_called k [] some = absurd (omega (arith, some))
@@ -323,7 +323,7 @@ in_hand h k m (Held j) is claimed some = by (k == j) refl
 in_hand h k m (Owed j c) is claimed some = absurd claimed
 in_hand h k m (Return j) is claimed some = absurd claimed
 
--- where nobody is owed the monitor, each place does something
+-- if no place is owed the monitor, each place does something
 Does-something : (b : Contents) (h : Log) (k : ℕ) → IsOf b h → IsClaimed (turn h.events) → (lane : Lane) × Does h k lane
 Does-something b h k o claimed = by (outside k h.events) refl
   where

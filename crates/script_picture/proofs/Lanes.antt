@@ -1,4 +1,4 @@
--- Lanes that are taken past a row one by one.
+-- Lanes that are moved past a row one by one.
 use Rattle.std.proofs.Common.{◌≡◌, ◌∙◌, ◌<◌, ◌≤◌, ◌+◌, ℕ, List, length, slice_index_or, slice_set, sym, subst, arith}
 use Rattle.std.proofs.Common.{⊎_elim}
 use Rattle.std.proofs.lemmas.Bool.{cases_lt}
@@ -22,7 +22,7 @@ past-set row old now n y within value done k below = ⊎_elim
     ∙ subst (λ (j : ℕ). y ≡ lane_after row j (slice_index_or old j states.Outside)) (sym same) value)
     (cases_lt k n)
 
--- a store leaves the lanes above it
+-- a store changes no lane above it
 pub above-set : (now : List Lane) (n k : ℕ) (y : Lane) → n + 1 ≤ k
     → slice_index_or (slice_set now n y) k states.Outside ≡ slice_index_or now k states.Outside
 above-set now n k y above = get_or-set_other now n k y states.Outside (λ e. absurd (omega (arith, above, e)))

@@ -1,4 +1,4 @@
--- Rows that are read, and answered as the history says.
+-- Rows that are read, with the answers by the history.
 use Rattle.std.proofs.Common.{◌≡◌, ◌==◌, ◌<◌, ◌≤◌, ◌&&◌, ℕ, length, slice_index_or, Bool, true, false, cond, leb, arith}
 use Rattle.std.proofs.Common.{List, [], ◌∷◌, ◌++◌, Option, None, Some, refl, ap, sym, ◌∙◌, subst}
 use Rattle.std.proofs.lemmas.Bool.Decides.{nat_tests}
@@ -32,7 +32,7 @@ few_places n is = by (leb 1 n.places) (leb n.places 64) refl is
     by true false e x = absurd (cc)
     by false b e x = absurd (cc)
 
--- what a book answers, as one more row
+-- the answer of a book, as one more row
 pub answered_row : (h : Log) (rows : List Row) (old new : Contents) (command : Command) (answer : Answer)
     (numbers : List ℕ) → h.sizes.places ≤ 64
     → ((g : Log) → IsOf old g → (answer ≡ answer_to g command) × IsOf new (history_after g command))
@@ -54,7 +54,7 @@ answered_row h rows old new command answer numbers few told numbered answered of
     places-rows f [] = refl
     places-rows f (r ∷ rs) = places-rows (history_after f r.command) rs ∙ places-after f r.command
 
--- a place beyond the last has no number, and so stands in no list of them
+-- a place beyond the last isn't among the notified, and has no number
 pub number-beyond : (b : Contents) (h : Log) (numbers : List ℕ) (k : ℕ) → IsOf b h → h.sizes.places ≤ 64
     → length numbers ≡ 64 → 64 ≤ k
     → slice_index_or numbers k 0 ≡ number_called h.events k
@@ -66,7 +66,7 @@ number-beyond b h numbers k o few long beyond =
     other : (x : Act) → IsCalled h x → (place_of x == k) ≡ false
     other x was = let below : place_of x < h.sizes.places = was.place in grind (arith, nat_tests)
 
--- rows that stay in front, as more are added
+-- rows stay in front if more are added
 pub front_self : (xs : List Row) → IsInFront xs xs
 front_self xs = ([], sym (append-nil xs))
 

@@ -1,4 +1,4 @@
--- What one more command makes of the lanes, and that they go on to show the history.
+-- Lanes after one more command still show the history.
 use Rattle.std.proofs.Common.{◌≡◌, ◌==◌, ◌<◌, ◌↔◌, ⊎_elim, ℕ, Bool, true, false, cond, eqb-true}
 use Rattle.std.specs.List.{refill}
 use Rattle.std.proofs.Common.{suc, zero, ◌+◌, add-one, arith, take, drop, List, [], ◌∷◌, ◌++◌, length, slice_index_or}
@@ -47,7 +47,7 @@ pub turn-with : (h : Log) (e : Act)
 unfolding with_event
 turn-with h e = turn-push h.events e
 
--- whoever is owed the monitor goes on
+-- the place that is owed the monitor resumes
 
 abbrev claimed_turn : Turn → Turn
 claimed_turn Free = Free
@@ -70,12 +70,12 @@ is_claimed (Return j) = tt
 claimed-settled : (h : Log) → IsClaimed (turn (settled h).events)
 claimed-settled h = subst IsClaimed (sym (turn-claim h (turn h.events) refl)) (is_claimed (turn h.events))
 
--- what place k does after a step by which h happened, is what the step, its answer and the number of k among the
--- called say
+-- what place k does after the step that h ends with is given by the step, its answer and the number of k among the
+-- notified
 abbrev IsLane : Log → Step → ℕ → Lane → Type 0
 IsLane h s k before = lane_of h k ≡ lane_answered s (number_called h.events k) k before (turn_answer (turn h.events))
 
--- where a step left its place as it does, the one that then goes on is inside
+-- if the lanes are right after the event of a step, they are right after the owed place resumed
 left_claim : (n : ℕ) (h : Log) (s : Step) (k : ℕ) (before : Lane) (t : Turn) → IsGivenUp t
     → lane_as n h k ≡ lane_left s n k before
     → lane_as n (after_claim h t) k ≡ lane_answered s n k before (turn_answer (claimed_turn t))
@@ -86,7 +86,7 @@ left_claim n h s k before (Owed j c) g l =
 left_claim n h s k before (Return j) g l =
     lane_as-push n h (event.Back j tt) k ∙ ap (λ (x : Lane). cond (j == k) lanes.Inside x) l
 
--- an event that gives the monitor up, and whoever then goes on
+-- an event that releases the monitor, and the place that then resumes
 left_by : (h : Log) (s : Step) (e : Act) (k : ℕ) → is_inside e ≡ false → place_of e ≡ actor s
     → ((actor s == k) ≡ true → lane_by (number_called (settled (with_event h e)).events k) e ≡ left_as s)
     → IsLane (settled (with_event h e)) s k (lane_of h k)
@@ -117,7 +117,7 @@ stays_by h s e k same inside held =
     by n true = refl
     by n false = lane_beside-last n (number_called h.events k) (newest (own k h.events))
 
--- where nothing happens, the place that acts stays inside
+-- if nothing happens, the acting place stays inside
 stays_so : (h : Log) (s : Step) (k : ℕ) → turn h.events ≡ Held (actor s) → IsLane h s k (lane_of h k)
 stays_so h s k held =
     by (actor s == k) refl
@@ -128,7 +128,7 @@ stays_so h s k held =
     by true is = sym (inside_last h k (held ∙ ap Held (eqb-true (actor s) k is)))
     by false is = lane_beside-last (number_called h.events k) (number_called h.events k) (newest (own k h.events))
 
--- who acts has the turn
+-- the acting place has the turn
 
 pub held_test : (a b : Bool) (further : Option StepRefused)
     → cond a (cond b further (Some NotInside)) (Some NoPlace) ≡ None → b ≡ true
@@ -142,7 +142,7 @@ held_is j (Held i) is = ap Held (eqb-true i j is)
 held_is j (Owed i c) is = absurd (cc)
 held_is j (Return i) is = absurd (cc)
 
--- a place that isn't called is not when the next one goes on
+-- a place that isn't notified is not notified after the next place resumed
 uncalled_claim : (h : Log) (k : ℕ) (t : Turn) → is_among k (called h.events) ≡ false
     → is_among k (called (after_claim h t).events) ≡ false
 uncalled_claim h k Free off = off
@@ -151,7 +151,7 @@ uncalled_claim h k (Owed j c) off =
     uncalled-push h (event.Resume j c tt) k refl (is_among-less j k (called h.events) off)
 uncalled_claim h k (Return j) off = uncalled-push h (event.Back j tt) k refl (is_among-less j k (called h.events) off)
 
--- nor is one that begins to wait
+-- nor is a place that begins to wait
 waits_as : (h : Log) (j c p k : ℕ) → (j == k) ≡ true
     → lane_by (number_called (settled (with_event h (event.Wait j c p tt))).events k) (event.Wait j c p tt)
     ≡ lanes.Waiting c p
@@ -160,7 +160,7 @@ waits_as h j c p k is =
     ap (λ (n : ℕ). lane_numbered n c p) (number_none 0 k (called (settled g).events) (uncalled_claim g k (turn g.events)
     (uncalled-push h (event.Wait j c p tt) k refl (is_among-own j k (called h.events) is))))
 
--- what a step that isn't refused makes of a place
+-- what a place does after a step that isn't refused
 stepped : (h : Log) (s : Step) (k : ℕ) → refusal_of h s ≡ None → IsLane (after_step h s) s k (lane_of h k)
 stepped h (Enter j) k r = stays_by h (Enter j) (event.Admit j tt) k refl (λ n. refl) (λ us ws. refl)
 stepped h (Wait j c p) k r = left_by h (Wait j c p) (event.Wait j c p tt) k refl refl (waits_as h j c p k)
@@ -191,7 +191,7 @@ stepped h (Broadcast j c) k r = by (waiting c h.events)
     by [] = stays_so h (Broadcast j c) k (held_is j (turn h.events) (held_test _ _ (kind_refusal h true c) r))
     by (w ∷ ws) = stays_by h (Broadcast j c) (event.Broadcast j c tt) k refl (λ n. refl) (λ us vs. refl)
 
--- what a command makes of a place, by its answer and by the place's number among those that are called then
+-- what a place does after a command, by its answer and by the place's number among the notified then
 pub lane_of-after : (h : Log) (c : Command) (k : ℕ)
     → lane_of (history_after h c) k
     ≡ lane_commanded c (number_called (history_after h c).events k) k (lane_of h k) (answer_to h c)
@@ -206,7 +206,7 @@ lane_of-after h (Do s) k = by (refusal_of h s) refl
 lane_of-after h (Queue c) k = refl
 lane_of-after h (First c) k = refl
 
--- after it nobody is owed the monitor
+-- after a step no place is owed the monitor
 pub claimed-step : (h : Log) (s : Step) → refusal_of h s ≡ None → IsClaimed (turn (after_step h s).events)
 claimed-step h (Enter j) r = subst IsClaimed (sym (turn-with h (event.Admit j tt))) tt
 claimed-step h (Wait j c p) r = claimed-settled (with_event h (event.Wait j c p tt))
@@ -234,7 +234,7 @@ claimed-after h (Do s) claimed = by (refusal_of h s) refl
 claimed-after h (Queue c) claimed = claimed
 claimed-after h (First c) claimed = claimed
 
--- and there are as many places
+-- and the number of places is the same
 places-claim : (h : Log) (t : Turn) → (after_claim h t).sizes.places ≡ h.sizes.places
 unfolding with_event
 places-claim h Free = refl
@@ -283,7 +283,7 @@ places-after h (Do s) = by (refusal_of h s)
 places-after h (Queue c) = refl
 places-after h (First c) = refl
 
--- what a row that is answered as the history says makes of a place
+-- what a place does after a row with the answer by the history
 pub answered_lane : (h : Log) (row : Row) (k : ℕ) → IsAnswered h row
     → lane_after row k (lane_of h k) ≡ lane_of (history_after h row.command) k
 answered_lane h row k answered =
@@ -291,7 +291,7 @@ answered_lane h row k answered =
     ∙ ap (lane_commanded row.command (number_called (history_after h row.command).events k) k (lane_of h k)) answered.0
     ∙ sym (lane_of-after h row.command k)
 
--- lanes that are taken past a row show the history after it
+-- lanes that are moved past a row show the history after it
 pub Shows-after : (h : Log) (row : Row) (old new : List Lane) → length new ≡ length old
     → ((k : ℕ) → k < length old
     → slice_index_or new k lanes.Outside ≡ lane_after row k (slice_index_or old k lanes.Outside))
@@ -313,7 +313,7 @@ Shows-after h row old new long each book answered shows = record {
       (λ d. one.0 d ∙ sym is, λ e. one.1 (e ∙ is));
 }
 
--- all lanes are outside where nothing happened
+-- lanes of places that are all outside show the history in which nothing happened
 pub Shows-opened : (n : Sizes) (drawn : List Lane) → length drawn ≡ n.places
     → ((k : ℕ) → slice_index_or drawn k lanes.Outside ≡ lanes.Outside) → Shows (opened n tt) drawn
 Shows-opened n drawn long out = record {
@@ -332,7 +332,7 @@ Shows-opened n drawn long out = record {
     outside_first : (k : ℕ) → lanes.Outside ≡ lane_of (opened n tt) k
     outside_first k = refl
 
--- one more row that is answered as the history says
+-- one more row with the answer by the history
 pub Answered-push : (h : Log) (rows : List Row) (row : Row) → Answered h rows → IsAnswered (after_rows h rows) row
     → HasBook (history_after (after_rows h rows) row.command) → Answered h (rows ++ row ∷ [])
 Answered-push h [] row a is book = (a, is, book)
@@ -343,7 +343,7 @@ pub after_rows-push : (h : Log) (rows : List Row) (row : Row)
 after_rows-push h [] row = refl
 after_rows-push h (r ∷ rows) row = after_rows-push (history_after h r.command) rows row
 
--- each of the rows is answered as what happened before it says
+-- each of the rows has the answer by the history before it
 pub Answered-at : (h : Log) (rows : List Row) (i : ℕ) (d : Row) → i < length rows → Answered h rows
     → IsAnswered (after_rows h (take i rows)) (slice_index_or rows i d)
     × HasBook (history_after (after_rows h (take i rows)) (slice_index_or rows i d).command)
@@ -353,7 +353,7 @@ Answered-at h (row ∷ next ∷ rows) zero d below a = (a.1, a.2.0)
 Answered-at h (row ∷ rows) (suc i) d below a =
     Answered-at (history_after h row.command) rows i d (omega (arith, below)) a.2
 
--- and a book is of what happened before it
+-- and there is a book of the history before it
 pub Answered-before : (h : Log) (rows : List Row) (i : ℕ) → i < length rows → Answered h rows
     → HasBook (after_rows h (take i rows))
 Answered-before h [] i below a = absurd (omega (arith, below))
@@ -361,7 +361,7 @@ Answered-before h (row ∷ rows) zero below a = a.0
 Answered-before h (row ∷ rows) (suc i) below a =
     Answered-before (history_after h row.command) rows i (omega (arith, below)) a.2
 
--- and the next row happens after those before it
+-- the history after the next row
 after_rows_suc : (h : Log) (rows : List Row) (i : ℕ) (d : Row) → i < length rows
     → after_rows h (take (suc i) rows) ≡ history_after (after_rows h (take i rows)) (slice_index_or rows i d).command
 after_rows_suc h [] i d below = absurd (omega (arith, below))
@@ -382,7 +382,7 @@ refill_whole : {X : Type 0} (old new : List X) → length new ≡ length old →
 refill_whole old new e =
     ap (λ (n : ℕ). take n (new ++ drop (length new) old)) (sym e) ∙ take_front new (drop (length new) old)
 
--- the next row, where the lanes are lent as a slice to be taken past it: they show what happened after it
+-- the lanes are lent as a slice to be moved past the next row: they show the history after it
 pub shown_next : (h : Log) (rows seen : List Row) (i : ℕ) (d : Row) (old lent new : List Lane) → seen ≡ rows
     → lent ≡ old → i < length seen → Answered h rows
     → Shows (after_rows h (take i rows)) old → length new ≡ length lent
@@ -441,7 +441,7 @@ Follows-next h rows seen i k d old new seen_is below told new_is before =
           ((Does-by_last at.1.0 (history_after g row.command) k new at.1.1 claimed).1 does),
     )
 
--- one row more, of a place that goes on as it did
+-- one more row, after which a place does what it did
 pub during_next : (c : Chart) (k : ℕ) (lane : Lane) (since i : ℕ) → DoesDuring c k lane since i
     → Does (after_rows (opening c.header) (take (i + 1) c.rows.items)) k lane → DoesDuring c k lane since (i + 1)
 during_next c k lane since i before now j from below = ⊎_elim
@@ -450,7 +450,7 @@ during_next c k lane since i before now j from below = ⊎_elim
     subst (λ (n : ℕ). Does (after_rows (opening c.header) (take (n + 1) c.rows.items)) k lane) (sym same) now)
     (cases_lt j i)
 
--- the first row, of a place that begins to do this there
+-- the first row after which a place does this
 pub during_one : (c : Chart) (k : ℕ) (lane : Lane) (i : ℕ)
     → Does (after_rows (opening c.header) (take (i + 1) c.rows.items)) k lane
     → DoesDuring c k lane i (i + 1)

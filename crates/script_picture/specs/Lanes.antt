@@ -1,4 +1,4 @@
--- What a place does after a row, and who hands the monitor to whom.
+-- What a place does after a row, and which place hands the monitor off to which.
 use Rattle.std.specs.Prelude.{ℕ, ◌==◌, Bool, true, false, if◌then◌else◌, Option, Some, None, slice_index_or}
 use Rattle.wait_book.specs.declared.steps.Step.{Step}
 use Rattle.wait_book.specs.declared.steps.Step.TheVariants.{Enter, Wait, Signal, Pass, Leave, Notify, Broadcast}
@@ -21,7 +21,7 @@ actor (Leave k) = k
 actor (Notify k c) = k
 actor (Broadcast k c) = k
 
--- what that place does then, unless it is inside
+-- what that place does after the step, unless it is inside
 abbrev pub left_as : Step → Lane
 left_as (Enter k) = lanes.Inside
 left_as (Wait k c p) = lanes.Waiting c p
@@ -31,11 +31,11 @@ left_as (Leave k) = lanes.Outside
 left_as (Notify k c) = lanes.Inside
 left_as (Broadcast k c) = lanes.Inside
 
--- a place that began to wait, by its number among the called: it waits where it isn't among them
+-- a place that began to wait, by its number among the notified: it waits if it isn't among them
 abbrev pub lane_numbered : ℕ → ℕ → ℕ → Lane
 lane_numbered number c p = if number == 0 then lanes.Waiting c p else lanes.Called c p number
 
--- a place beside a step of another: one that waits, or was called, has its number
+-- a place after a step of another place: a waiting or notified place has its number
 abbrev pub lane_beside : ℕ → Lane → Lane
 lane_beside number (lanes.Waiting c p) = lane_numbered number c p
 lane_beside number (lanes.Called c p n) = lane_numbered number c p
@@ -43,11 +43,11 @@ lane_beside number lanes.Outside = lanes.Outside
 lane_beside number lanes.Inside = lanes.Inside
 lane_beside number lanes.Signalling = lanes.Signalling
 
--- a place where another is inside, or nobody
+-- a place after a step, if another place is inside or none
 abbrev pub lane_left : Step → ℕ → ℕ → Lane → Lane
 lane_left s number place before = if actor s == place then left_as s else lane_beside number before
 
--- a place after a step, by the step's answer and the place's number among those that are called then
+-- a place after a step, by the step's answer and the place's number among the notified after the step
 abbrev pub lane_answered : Step → ℕ → ℕ → Lane → Answer → Lane
 lane_answered s number place before (answers.Refused r) = before
 lane_answered s number place before (answers.Inside k) =
@@ -66,12 +66,12 @@ lane_commanded (First c) number place before answer = before
 abbrev pub lane_after : Row → ℕ → Lane → Lane
 lane_after row place before = lane_commanded row.command (slice_index_or row.numbers place 0) place before row.answer
 
--- one that waited is called
+-- a place waited before, and is notified after
 abbrev pub is_call : Lane → Lane → Bool
 is_call (lanes.Waiting c p) (lanes.Called d q n) = true
 is_call _ _ = false
 
--- who calls: the place of the step by which a place is called
+-- the notifying place: the place of the step by which a place is notified
 abbrev pub caller_commanded : Command → Lane → Lane → Option ℕ
 caller_commanded (Do s) before after = if is_call before after then Some (actor s) else None
 caller_commanded (Queue c) before after = None

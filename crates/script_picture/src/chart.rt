@@ -222,8 +222,8 @@ pub fn does(lanes: &Lanes, place: u64, lane: Lane) -> bool
 }
 
 /// Moves all lanes past a row. If the row has the answer by a history, and the lanes show this history, they then show
-/// the history after the row: which places wait, which are waiting signallers, which are notified and with which
-/// numbers, which place has the turn, and which are outside.
+/// the history after the row. That is which places wait, are waiting signallers, are notified and with which numbers,
+/// have the turn, or are outside.
 pub fn advance(lanes: &mut [Lane], row: Row)
     ensures length { length lanes.new ≡ length lanes.old }
     ensures each { (k : ℕ) → k < length lanes.old → slice_index_or lanes.new k states.Outside

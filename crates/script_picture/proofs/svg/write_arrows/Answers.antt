@@ -10,7 +10,7 @@ use Rattle.script_picture.proofs.Arrows.{HandsOver-between, KeepsTurn-at}
 use Rattle.script_picture.proofs.svg.write_arrows.Goals.{in-Some+in_ok-crossed, in_default}
 use Rattle.script_picture.proofs.svg.write_arrows.Goals as goal
 
--- what stands for a row beyond the last
+-- the value used for a row beyond the last
 abbrev no_row : Row
 no_row = record { command = commands.Do (steps.Enter 0); answer = answers.Free; numbers = [] }
 

@@ -10,7 +10,7 @@ use Rattle.script_picture.proofs.Calling.{Calls-at, LeavesAlone-at}
 use Rattle.script_picture.proofs.svg.write_lane_calls.Goals.{in-Some+in_ok-noted, in_default}
 use Rattle.script_picture.proofs.svg.write_lane_calls.Goals as goal
 
--- what stands for a row beyond the last
+-- the value used for a row beyond the last
 abbrev no_row : Row
 no_row = record { command = commands.Do (steps.Enter 0); answer = answers.Free; numbers = [] }
 

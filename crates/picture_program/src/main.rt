@@ -12,6 +12,7 @@ ghost use Rattle.script_picture.specs.Faults.{status_after};
 
 use crate::request::form_of;
 use hoare_script::ScriptFault;
+use line_text::last_line::{LineKeeper, explain};
 use script_picture::{Form, PictureFault, draw_script};
 use std::io::{BufReader, BufWriter};
 use std::process::ExitCode;
@@ -21,10 +22,7 @@ const OUT_OF_MEMORY: PictureFault = PictureFault::Script(ScriptFault::Memory);
 
 fn main(rt: HostRuntime) -> ExitCode {
     match asked_form(&rt) {
-        Ok(Some(form)) => {
-            let end = draw_input(&rt, form);
-            tell(&rt, end)
-        }
+        Ok(Some(form)) => draw_input(&rt, form),
         Ok(None) => {
             let _ = eprintln!(rt;
                 "usage: script_picture [--text] | [--from N] [--to N] < SCRIPT \
@@ -32,7 +30,7 @@ fn main(rt: HostRuntime) -> ExitCode {
             );
             ExitCode::from(2)
         }
-        Err(fault) => tell(&rt, Err(fault)),
+        Err(fault) => report(&rt, Err(fault)),
     }
 }
 
@@ -53,18 +51,27 @@ fn asked_form(rt: &HostRuntime) -> Result<Option<Form>, PictureFault> {
 }
 
 // Draws standard input to standard output. Both are buffered, so that a byte isn't a system call.
-fn draw_input(rt: &HostRuntime, form: Form) -> Result<(), PictureFault> {
-    let Ok(mut reader) = BufReader::with_capacity(rt.alloc(), 65_536, rt.stdin()) else {
-        return Err(OUT_OF_MEMORY);
+fn draw_input(rt: &HostRuntime, form: Form) -> ExitCode {
+    let Ok(ahead) = BufReader::with_capacity(rt.alloc(), 65_536, rt.stdin()) else {
+        return report(rt, Err(OUT_OF_MEMORY));
     };
     let Ok(mut writer) = BufWriter::with_capacity(rt.alloc(), 65_536, rt.stdout()) else {
-        return Err(OUT_OF_MEMORY);
+        return report(rt, Err(OUT_OF_MEMORY));
     };
-    draw_script(rt.alloc(), &mut reader, &mut writer, form)
+    let mut reader = LineKeeper::new(ahead);
+    let end = draw_script(rt.alloc(), &mut reader, &mut writer, form);
+    let code = report(rt, end);
+    let line = reader.last_line();
+    if let Err(PictureFault::Script(fault)) = end
+        && let Some(expected) = fault.expected(line.bytes())
+    {
+        explain(rt, line, expected);
+    }
+    code
 }
 
-// Returns the exit code. A fault's line is written to standard error.
-fn tell<R: Eprint>(rt: &R, end: Result<(), PictureFault>) -> ExitCode
+// Returns the exit code, and prints the line of a fault on standard error.
+fn report<R: Eprint>(rt: &R, end: Result<(), PictureFault>) -> ExitCode
     ensures { exit_status result ≡ status_after end }
 {
     match end {

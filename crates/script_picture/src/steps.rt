@@ -1,5 +1,5 @@
 //! Which steps of a script an SVG shows.
-ghost use Rattle.std.specs.Prelude.{◌≡◌};
+ghost use Rattle.std.specs.Prelude.{◌≡◌, ◌-◌, ◌&&◌, nat_le, nat_lt, take, drop};
 ghost use Rattle.script_picture.specs.Faults.{shown_count};
 
 /// The steps from `first` to `last`, both included, counted from 1. If `first` is beyond the script or beyond `last`,
@@ -30,7 +30,8 @@ pub struct Shown {
 impl Steps {
     /// Returns which of a script's rows these steps are.
     pub fn among(self, rows: u64) -> Shown
-        ensures { result.count ≡ shown_count self rows }
+        ensures before { result.before ≡ self.first - 1 }
+        ensures count { result.count ≡ shown_count self rows }
     {
         let before = self.first.saturating_sub(1);
         Shown {
@@ -42,12 +43,16 @@ impl Steps {
 
 impl Shown {
     /// Returns true if the row with this number, counted from 0, is shown.
-    pub fn has(self, row: u64) -> bool {
+    pub fn has(self, row: u64) -> bool
+        ensures { result ≡ (nat_le self.before row && nat_lt (row - self.before) self.count) }
+    {
         self.before <= row && row - self.before < self.count
     }
 
     /// Returns those of a script's rows that are shown.
-    pub fn among<T>(self, rows: &[T]) -> &[T] {
+    pub fn among<T>(self, rows: &[T]) -> &[T]
+        ensures { result.now ≡ take self.count (drop self.before rows.now) }
+    {
         let begin = (self.before as usize).min(rows.len());
         let end = begin.saturating_add(self.count as usize).min(rows.len());
         &rows[begin..end]

@@ -9,7 +9,11 @@ use line_text::writer::WriteFailed;
 fn faults_of_lines_read_plainly(rt: HostRuntime) {
     reads(&rt, &LineFault::Failed, "a read failed");
     reads(&rt, &LineFault::TooLong, "a line has over 256 bytes");
-    reads(&rt, &LineFault::TooMuch, "the text is longer than its limit");
+    reads(
+        &rt,
+        &LineFault::TooMuch,
+        "the text is longer than its limit",
+    );
     reads(&rt, &ReadFailed, "a read failed");
     reads(&rt, &WriteFailed, "a write failed, or took nothing");
 }

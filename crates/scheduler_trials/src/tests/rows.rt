@@ -12,6 +12,7 @@ mod pool_stress;
 pub mod readers;
 mod readers_stress;
 pub mod reading;
+mod recipes;
 mod schedulers;
 mod shared_log;
 mod table;

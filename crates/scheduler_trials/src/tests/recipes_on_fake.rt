@@ -1,4 +1,4 @@
-//! What the cookbook's program does not run, on the fake monitor: a philosopher gets up from a seat at which no
+//! What the rows of the recipes do not run, on the fake monitor: a philosopher gets up from a seat at which no
 //! philosopher eats, and a latch is opened twice.
 
 use crate::tests::compared::expect_same;

@@ -162,8 +162,8 @@ impl Row<Rendezvous<u64>> for Shared {
 }
 
 impl Row<Table> for Shared {
-    // Ten philosophers, two for each seat, eat once each. Bit k of `done` is set while one eats at seat k. Fails the test
-    // if one eats at the seat of the place, or beside it, while the place eats.
+    // Ten philosophers, two for each seat, eat once each. Bit k of `done` is set while the philosopher at seat k eats.
+    // Fails the test if another eats at the seat of the place, or beside it, while the place eats.
     fn act<R: Wait + Abort + Clock, M: Monitor<Table, Out = DoorOut<Table>>>(
         &self,
         rt: &R,

@@ -1,12 +1,12 @@
-/* zaulinte_checks.h: the part of zaulinte_monitor.c that tests what holds of the data. It does so in a build with
- * ZAULINTE_CHECKS alone; in another build each function does nothing. NOT PROVED. */
+/* zaulinte_checks.h: the part of zaulinte_monitor.c that tests what holds of the data (`zaulinte_check`), in a build
+ * with ZAULINTE_CHECKS. In any other build each function does nothing. NOT PROVED. */
 #ifdef ZAULINTE_CHECKS
 #include <inttypes.h>
 #include <stdio.h>
 #include <stdlib.h>
 
-/* inv and rest are tested by the place inside, before a step that releases the monitor; ready by the place that was
- * resumed, after its step. */
+/* The place inside tests inv and rest, before a step that releases the monitor. The place that was resumed tests ready,
+ * after its step. */
 static void make_checks(zaulinte_monitor *m, uint64_t conditions, uint64_t mesa) {
     m->conditions = (uint32_t)conditions, m->hoare = (uint32_t)(conditions - mesa);
 }

@@ -4,8 +4,8 @@
  * PROVED: each function meets its contract in crates/door_c/src/lib.rt, for any number, and for a handle that holds
  * something or nothing. A refused act of a place changes nothing. All that a place knows of its door's history is
  * legal, and the place is outside, inside or away in it. An act that releases the monitor returns the place that has
- * the monitor next, below 64, or 64. A door is closed with the value that one legal history left, which begins with
- * what each of its places knows, as the keeper has them in hand.
+ * the monitor next, below 64, or 64 if none has. A door is closed with the value that one legal history left, which
+ * begins with what each of its places knows, as the keeper has them in hand.
  * TESTED: that the keeper collects each place that was given back, with what the place knew.
  * Not proved: this header. The caller owes the following, and nothing checks it:
  *  - `door` and `place` point to handles that were all zero at first and that these functions alone wrote. A handle
@@ -26,7 +26,8 @@
 extern "C" {
 #endif
 
-/* The keeper of a door: the door, and in hand the places that weren't given out, or were collected. Start with `zaulinte_door door = {0};`. */
+/* The keeper of a door: the door, and in hand those of its places that weren't given out, or were given back and
+ * collected. Start with `zaulinte_door door = {0};`. */
 typedef struct zaulinte_door {
     uint64_t live;
     void *spare, *at;
@@ -38,12 +39,12 @@ typedef struct zaulinte_door_place {
     void *spare, *at;
 } zaulinte_door_place;
 
-/* Codes. Each function names its refusals in the order in which it tests for them. */
+/* The codes. The comment of each function names its refusals in the order in which the function tests for them. */
 enum zaulinte_door_code {
-    ZAULINTE_DOOR_DONE = 0,
+    ZAULINTE_DOOR_DONE = 0,            /* the call was done */
     ZAULINTE_DOOR_ENTERED = 64,        /* the place is inside */
     ZAULINTE_DOOR_NOBODY = 64,         /* no place is to be woken */
-    ZAULINTE_DOOR_NOT_NOW = 102,       /* not possible at this moment */
+    ZAULINTE_DOOR_NOT_NOW = 102,       /* not possible at this moment: the monitor or the slot is taken */
     ZAULINTE_DOOR_NOT_OUTSIDE = 103,   /* the place is inside or away */
     ZAULINTE_DOOR_NOT_INSIDE = 104,    /* the place is outside or away */
     ZAULINTE_DOOR_NO_CONDITION = 105,  /* no condition has this number */
@@ -53,61 +54,87 @@ enum zaulinte_door_code {
     ZAULINTE_DOOR_BAD_PLACES = 109,    /* none, or over 64 */
     ZAULINTE_DOOR_BAD_CONDITIONS = 110, /* none, over 8, or more Mesa conditions than conditions */
     ZAULINTE_DOOR_NO_MEMORY = 111,     /* an allocation failed */
-    ZAULINTE_DOOR_IN_USE = 112,        /* a place isn't in the keeper's hand */
+    ZAULINTE_DOOR_IN_USE = 112,        /* a place isn't in hand, or its `give_back` hasn't returned */
     ZAULINTE_DOOR_NOT_AWAY = 113,      /* the place neither waits nor has it signalled */
     ZAULINTE_DOOR_NONE_LEFT = 114      /* all places are taken */
 };
-/* Where a place is. */
+/* The states of a place, which `state` returns. */
 enum zaulinte_door_where { ZAULINTE_DOOR_OUTSIDE, ZAULINTE_DOOR_INSIDE, ZAULINTE_DOOR_AWAY };
 
-/* Makes a door: 1 to 64 places, 1 to 8 conditions, the last `mesa` of which are Mesa conditions, and a word of the
- * caller's, as a rule a pointer to its data. 0, or 108, 109, 110, 111. Only this function and `give_out` allocate. */
+/* Makes a door of `places` places, 1 to 64, and `conditions` conditions, 1 to 8, the last `mesa` of which are Mesa
+ * conditions. `value` is a word of the caller's that is kept in the monitor, as a rule a pointer to its data. Returns
+ * 0. Refused: 108 `door` holds a door already, 109 bad number of places, 110 bad number of conditions or of Mesa
+ * conditions, 111 an allocation failed. Only this function and `give_out` allocate. */
 uint64_t zaulinte_door_make(zaulinte_door *door, uint64_t places, uint64_t conditions, uint64_t mesa, uint64_t value);
-/* Gives a place out and returns its number, below 64: the number by which an act returns this place, to be woken. Or
- * 108 (`place` holds one), 107 (no door), 114, 111 (the place went back to its door: nothing is lost). The numbers are
- * places - 1, .., 0; once a place was given back, or an allocation failed here, each is any that isn't out. */
+/* Gives a place out into `place`, for a thread of its own, and returns its number, below 64: the number by which an act
+ * names this place as the one to wake. If no place is in hand, the function first collects. The numbers are places - 1,
+ * .., 0; once a place was given back, or an allocation failed here, each is any number that isn't out. Refused: 108
+ * `place` holds a place already, 107 `door` holds no door, 114 all places are taken, 111 an allocation failed (the
+ * place goes back to its door: nothing is lost). */
 uint64_t zaulinte_door_give_out(zaulinte_door *door, zaulinte_door_place *place);
-/* Gives the place back: 0, and the handle holds nothing; or 107, 103, 102 (another thread has the place's slot in
- * hand: try again). */
+/* Gives the place back to its door, and returns 0: `place` then holds nothing. Refused: 107 `place` holds nothing, 103
+ * the place isn't outside, 102 another thread has the place's slot in hand at this moment (try again). */
 uint64_t zaulinte_door_give_back(zaulinte_door_place *place);
-/* Takes those places in hand that were given back: 0; or 107. `give_out` does it too, if no place is in hand. */
+/* Takes those places in hand that were given back, and returns 0. A place whose slot another thread has in hand at this
+ * moment is left out. Refused: 107 `door` holds no door. */
 uint64_t zaulinte_door_collect(zaulinte_door *door);
-/* Closes the door, if all of its places are in hand (see `collect`): 0, *value is the word that the last visit left,
- * and the handle holds nothing; or 107, 112 (nothing is lost: try again later). */
+/* Closes the door if all of its places are in hand (see `collect`), writes the word that the last visit left to *value,
+ * and returns 0: `door` then holds nothing. Refused: 107 `door` holds no door; 112 a place was given out, and not given
+ * back and collected, or a `give_back` in another thread has put its place back but hasn't returned. A refusal loses
+ * nothing, and *value stays: try again later. */
 uint64_t zaulinte_door_close(zaulinte_door *door, uint64_t *value);
 
-/* Enters if the monitor is free at this moment: 64, or 107, 103, 102. */
+/* Lets the place enter if the monitor is free at this moment. Returns 64: the place is inside. Refused: 107 `place`
+ * holds nothing, 103 the place isn't outside, 102 the monitor isn't free. */
 uint64_t zaulinte_door_try_enter(zaulinte_door_place *place);
-/* Leaves. Returns the place to wake, or 64 if there is none: the monitor is free then, and a thread that waits to
- * enter may be woken. Or 107, 104. */
+/* Lets the place leave. Returns the place to wake (below 64), or 64 if there is none: the monitor is free then, and a
+ * thread that waits to enter may be woken. Refused: 107 `place` holds nothing, 104 the place isn't inside. */
 uint64_t zaulinte_door_leave(zaulinte_door_place *place);
-/* Waits on a condition. Returns as `leave`, or 107, 104, 105. The place is away then: after its thread is woken, the
- * thread calls `try_return` until that returns 64. A signal resumes the waiter of least priority, of equal ones the
- * longest waiting. If the monitor is released otherwise, the signallers resume in the order of their signals, after
- * all of them the notified places in the order of their notifications, and then any place enters. */
+/* Lets the place wait on `condition` (below the number of conditions) with `priority`, any number. Returns the place to
+ * wake, or 64, as `leave` does. The place is away then: after its thread is woken, the thread calls `try_return` until
+ * that returns 64. Refused: 107 `place` holds nothing, 104 the place isn't inside, 105 no such condition.
+ *
+ * A signal resumes the waiter of least priority, and of equal ones the longest waiting. If the monitor is released
+ * otherwise, the signallers resume in the order of their signals, after all of them the notified places in the order of
+ * their notifications, and then any place enters. */
 uint64_t zaulinte_door_wait(zaulinte_door_place *place, uint64_t condition, uint64_t priority);
-/* Signals one of Hoare's conditions. Below 64: that place was resumed, its thread is to be woken, and the signaller
- * is away, as after a `wait`. 64: nobody waits there, and the signaller is inside. Or 107, 104, 105, 106. */
+/* Lets the place signal `condition`, one of Hoare's. Returns the place that it resumed (below 64): its thread is to be
+ * woken, and the signaller is away, as after a `wait`. Returns 64 if no place waits on the condition: the signaller is
+ * still inside. Refused: 107 `place` holds nothing, 104 the place isn't inside, 105 no such condition, 106 a Mesa
+ * condition. */
 uint64_t zaulinte_door_signal(zaulinte_door_place *place, uint64_t condition);
-/* Signals one of Hoare's conditions and leaves, in one step. Returns as `leave`, or 107, 104, 105, 106. */
+/* Lets the place signal `condition`, one of Hoare's, and leave, in one step. Returns the place to wake, or 64, as
+ * `leave` does. Refused as `signal`. */
 uint64_t zaulinte_door_signal_leave(zaulinte_door_place *place, uint64_t condition);
-/* Notifies the waiter of a Mesa condition that a signal would resume, or all of them. Returns how many were notified,
- * or 107, 104, 105, 106. No thread is woken for that: a later step returns each notified place. */
+/* Lets the place notify the waiter on the Mesa condition `condition` that a signal would resume. Returns the number of
+ * notified places, 1 or 0. No thread is woken for that: a later act returns the notified place. Refused: 107 `place`
+ * holds nothing, 104 the place isn't inside, 105 no such condition, 106 one of Hoare's conditions. */
 uint64_t zaulinte_door_notify(zaulinte_door_place *place, uint64_t condition);
+/* Lets the place notify all waiters on the Mesa condition `condition`. Returns their number, at most 63. No thread is
+ * woken for that: later acts return the notified places, one each. Refused as `notify`. */
 uint64_t zaulinte_door_broadcast(zaulinte_door_place *place, uint64_t condition);
-/* Enters again, if the monitor is owed to the place at this moment: 64, or 107, 113, 102. */
+/* Lets the place return from its `wait` or its `signal` if the monitor is owed to it at this moment. Returns 64: the
+ * place is inside. Refused: 107 `place` holds nothing, 113 the place isn't away, 102 the monitor isn't owed to it. */
 uint64_t zaulinte_door_try_return(zaulinte_door_place *place);
 
-/* Reads and writes the word that lies in the monitor, by the place inside: 0, or 107, 104, and *value stays. */
+/* Writes the word that is kept in the monitor to *value, and returns 0. Refused: 107 `place` holds nothing, 104 the
+ * place isn't inside; *value then stays. */
 uint64_t zaulinte_door_get(zaulinte_door_place *place, uint64_t *value);
+/* Makes `value` the word that is kept in the monitor, and returns 0. Refused: 107 `place` holds nothing, 104 the place
+ * isn't inside. */
 uint64_t zaulinte_door_set(zaulinte_door_place *place, uint64_t value);
-/* Returns 1 if a place waits on the condition (a notified place doesn't), else 0; or 107, 104, 105. */
+/* Returns 1 if a place waits on `condition` (a notified place doesn't), else 0. Refused: 107 `place` holds nothing, 104
+ * the place isn't inside, 105 no such condition. */
 uint64_t zaulinte_door_queue(zaulinte_door_place *place, uint64_t condition);
-/* Returns the same, and at 1 *priority is that of the place that a signal would resume. Else *priority stays. */
+/* Returns 1 if a place waits on `condition`, and writes the priority of the place that a signal would resume to
+ * *priority. Else returns 0. Refused: 107 `place` holds nothing, 104 the place isn't inside, 105 no such condition.
+ * Unless 1 is returned, *priority stays. */
 uint64_t zaulinte_door_first(zaulinte_door_place *place, uint64_t condition, uint64_t *priority);
-/* Returns how many places wait on the condition, or 107, 104, 105. */
+/* Returns the number of places that wait on `condition`, at most 63. Refused: 107 `place` holds nothing, 104 the place
+ * isn't inside, 105 no such condition. */
 uint64_t zaulinte_door_count(zaulinte_door_place *place, uint64_t condition);
-/* Returns where the place is, a zaulinte_door_where, or 107. */
+/* Returns the state of the place, a zaulinte_door_where: 0 outside, 1 inside, 2 away. Refused: 107 `place` holds
+ * nothing. */
 uint64_t zaulinte_door_state(zaulinte_door_place *place);
 
 #ifdef __cplusplus

@@ -1,4 +1,4 @@
-/* The two names by which the archives take memory, over malloc and free. NOT PROVED. */
+/* The two functions by which the archives allocate and free memory, with malloc and free. NOT PROVED. */
 #include <stdbool.h>
 #include <stddef.h>
 #include <stdlib.h>

@@ -1,12 +1,13 @@
-/* A running monitor on the proved door: which thread sleeps, and which one is woken. NOT PROVED, tested. Why no wake-up
- * is lost is said in zaulinte_port.h. */
+/* A running monitor on the proved door: which thread sleeps, and which thread is woken. NOT PROVED, tested.
+ * zaulinte_port.h argues why no wake-up is lost. */
 #include "zaulinte_monitor.h"
 #define ZAULINTE_PORT_CODE
 #include "zaulinte_port.h"
 
 const char ZAULINTE_BUILD = 0;
-/* A place's bell: AWAKE, ASLEEP, or rung: RUNG by a thread that comes back, LEFT by one that left the monitor. The
- * entrance's: ASLEEP if a newcomer may sleep there, else AWAKE. */
+/* The word of a place's bell: AWAKE, ASLEEP, or rung. It is rung with RUNG by a thread that waits or signals, and with
+ * LEFT by a thread that left the monitor. The word of the entrance: ASLEEP if an entering thread may sleep there, else
+ * AWAKE. */
 enum { AWAKE, ASLEEP, RUNG, LEFT, NOBODY = ZAULINTE_DOOR_NOBODY };
 static zaulinte_door_place *at(zaulinte_monitor *m, uint32_t place) { return &m->place[place].handle; }
 #include "zaulinte_checks.h"
@@ -32,15 +33,16 @@ static uint64_t may_act(zaulinte_monitor *m, uint32_t place) {
     visit_ends(m);
     return 0;
 }
-/* Wakes the thread of the place that has the monitor next, and rings it by `how`; if none has it, one newcomer. */
+/* Rings the place that has the monitor next with `how`, and wakes its thread. If no place has it (`next` is NOBODY),
+ * wakes one entering thread. */
 static void wake(zaulinte_monitor *m, uint64_t next, uint32_t how) {
     zaulinte_bell *b = next < NOBODY ? &m->place[next].bell : &m->entrance;
     if (next == NOBODY && atomic_load(&b->word) != ASLEEP) return;
     if (atomic_exchange(&b->word, next < NOBODY ? how : AWAKE) == ASLEEP) port_wake_one(b);
 }
 
-/* Lets others enter first. A place to which one that left handed the monitor would mostly enter again before that one
- * does, find its condition false again and wait: each visit would cost a hand-off. */
+/* Lets other places enter first. If place P leaves and hands off the monitor to `p`, then `p` would mostly enter again
+ * before P does, find its condition false again and wait: each visit would cost a hand-off. */
 static void back_off(zaulinte_place *p) {
     p->backs_off = false;
     for (int i = 0; i < ZAULINTE_BACK_OFF; i++) port_relax();
@@ -73,7 +75,7 @@ uint64_t zaulinte_try_enter(zaulinte_monitor *m, uint32_t place) {
 }
 
 static bool is_rung(zaulinte_bell *b) { return atomic_load(&b->word) >= RUNG; }
-/* Wakes the next, and blocks until the place is back. */
+/* Wakes the place that has the monitor next, and blocks until `place` is inside again. */
 static void resumes(zaulinte_monitor *m, uint32_t place, uint64_t next) {
     zaulinte_bell *mine = &m->place[place].bell;
     uint32_t is = AWAKE;
@@ -124,7 +126,7 @@ uint64_t zaulinte_signal_leave(zaulinte_monitor *m, uint32_t place, uint32_t con
     return unclaim(m, place, 0);
 }
 
-/* The other calls of the place inside. `tell` returns a step's number by a pointer, or its refusal. */
+/* The other calls of the place inside. `tell` writes the number that a step returned to *to, or returns its refusal. */
 static uint64_t tell(uint64_t number, uint64_t *to) {
     if (number <= NOBODY && to) *to = number;
     return number <= NOBODY ? 0 : number;
@@ -138,7 +140,7 @@ uint64_t zaulinte_count(ON, uint64_t *count) IF_INSIDE(tell(zaulinte_door_count(
 uint64_t zaulinte_queue(ON) IF_INSIDE(zaulinte_door_queue(at(m, place), condition))
 uint64_t zaulinte_first(ON, uint64_t *priority) IF_INSIDE(zaulinte_door_first(at(m, place), condition, priority))
 
-/* Gives the places back and closes the door. No call is under way. */
+/* Gives the places back, closes the door, and returns `code`, or why the door isn't closed. No call is under way. */
 static uint64_t undo(zaulinte_monitor *m, uint32_t places, uint64_t code) {
     m->places = 0;
     for (uint32_t k = 0; k < places; k++) {

@@ -1,8 +1,8 @@
 /* zaulinte_monitor.h: a running monitor for threads, on the proved door. C11 or C++17.
  *
- * PROVED: the steps of the door (zaulinte_door.h), which say which place enters, resumes or is inside. NOT PROVED,
- * tested: this header, and zaulinte_monitor.c with the port, which put a thread to sleep and wake the one that a step
- * names. The caller touches the monitor's data inside only.
+ * PROVED: the steps of the door (zaulinte_door.h), which decide which place enters, resumes or is inside. NOT PROVED,
+ * tested: this header, and zaulinte_monitor.c with the port, which put a thread to sleep and wake the thread whose
+ * place a step returns. The caller touches the monitor's data only while its place is inside.
  *
  * zaulinte_port.h says what the monitor asks of its platform. Compile all that includes this header, and
  * zaulinte_monitor.c, with the same ZAULINTE_PORT and the same ZAULINTE_CHECKS: else the program doesn't link. */
@@ -35,42 +35,45 @@ extern "C" {
 #define ZAULINTE_WORD(type) _Atomic type
 #endif
 
-/* Codes beside those of zaulinte_book.h. */
+/* The codes besides those of zaulinte_book.h. */
 enum {
-    ZAULINTE_IN_USE = 112,    /* `free` while a thread has a place: it is inside, waits or is about to enter */
-    ZAULINTE_MISALIGNED = 115 /* a monitor that doesn't lie at a multiple of 64 */
+    ZAULINTE_IN_USE = 112,    /* `free`: a thread has a place, which is inside, waits or is about to enter */
+    ZAULINTE_MISALIGNED = 115 /* `make`: the monitor isn't at an address that is a multiple of 64 */
 };
 
-/* What a thread sleeps on. */
+/* A word on which threads sleep, with the port's fields. */
 typedef struct zaulinte_bell {
     ZAULINTE_WORD(uint32_t) word;
     ZAULINTE_BELL_FIELDS /* the port's */
 } zaulinte_bell;
 
-/* A place, on cache lines of its own. */
+/* A place, at a multiple of 64 bytes: against false sharing. */
 typedef struct zaulinte_place {
-    alignas(64) zaulinte_bell bell;  /* its thread sleeps on it: 0 awake, 1 asleep, 2 woken */
-    ZAULINTE_WORD(uintptr_t) thread; /* the thread that has the place: from its entering until it has left, else 0 */
+    alignas(64) zaulinte_bell bell;  /* its thread sleeps on it: 0 awake, 1 asleep, 2 or 3 rung */
+    ZAULINTE_WORD(uintptr_t) thread; /* the thread that has the place, from its `enter` until it has left, else 0 */
     zaulinte_door_place handle;
     bool backs_off; /* it was handed the monitor by a place that left */
 } zaulinte_place;
 
-/* The waiters on each condition, for a check: how many, and the priority of the one that a signal would resume. */
+/* The waiters on each condition, for a check: `count` is their number, `first` the priority of the waiter that a signal
+ * would resume (if there is one). */
 typedef struct zaulinte_waiting {
     uint64_t count[8], first[8];
 } zaulinte_waiting;
 
-/* What holds of a monitor's data (`context`). A null pointer holds always.
- * inv: whenever the monitor is released. rest: at a leave and at a wait; the place that begins to wait is among the
- * waiters. ready: what a waiter on one of Hoare's conditions finds when it is resumed, and which waiters are left. */
+/* The three checks of a monitor's data (`context`), for `zaulinte_check`. Each returns true if what it checks holds. A
+ * null pointer instead of a function holds always.
+ * - inv: holds whenever the monitor is released.
+ * - rest: holds at a leave and at a wait; the place that begins to wait is then among the waiters.
+ * - ready: what a waiter on one of Hoare's conditions finds when it is resumed; `waiting` has those that still wait. */
 typedef bool (*zaulinte_inv)(void *context);
 typedef bool (*zaulinte_rest)(void *context, const zaulinte_waiting *waiting);
 typedef bool (*zaulinte_ready)(void *context, uint32_t condition, uint64_t priority, const zaulinte_waiting *waiting);
 
-/* Start with `static zaulinte_monitor m;`, with all zero at a multiple of 64, or by `zaulinte_new`. Some 4 KB; with
- * condition variables some 8. */
+/* A monitor. Start with `static zaulinte_monitor m;`, with memory that is all zero at an address that is a multiple of
+ * 64, or with `zaulinte_new`. It has a size of some 4 KB, with condition variables of some 8 KB. */
 typedef struct zaulinte_monitor {
-    alignas(64) zaulinte_bell entrance; /* newcomers sleep on it */
+    alignas(64) zaulinte_bell entrance; /* entering threads sleep on it */
     ZAULINTE_WORD(uint32_t) places;     /* 0: there is no monitor */
     zaulinte_door door;
 #ifdef ZAULINTE_CHECKS
@@ -97,46 +100,64 @@ __attribute__((used))
 #endif
 static const char *const zaulinte_asks_for = &ZAULINTE_BUILD;
 
-/* Makes a monitor of 1 to 64 places, one for each thread that may be in it at once, and 1 to 8 conditions, the last
- * `mesa` of which are Mesa conditions. 0, or 115, 108 to 111. */
+/* Makes a monitor of `places` places, 1 to 64, one for each thread that may be in it at once, and of `conditions`
+ * conditions, 1 to 8, the last `mesa` of which are Mesa conditions. Returns 0. Refused, in this order: 115 `m` isn't
+ * at a multiple of 64, 108 there is a monitor already, 109 bad number of places, 110 bad number of conditions or of Mesa
+ * conditions, 111 an allocation failed. */
 ZAULINTE_CODE zaulinte_make(zaulinte_monitor *m, uint64_t places, uint64_t conditions, uint64_t mesa);
-/* Undoes it. 0; 107 if there is none; 112, and nothing happened, while a thread has a place: it is inside, waits, or
- * is in a call. Join the threads first, so that none begins one after that. */
+/* Frees what `zaulinte_make` made, and returns 0; there is no monitor then. Refused: 107 there is no monitor; 112 a
+ * thread has a place, which is inside or waits, or the thread is in a call. A refusal changes nothing. The caller joins
+ * the threads first, so that none begins a call meanwhile. */
 ZAULINTE_CODE zaulinte_free(zaulinte_monitor *m);
 
-/* Each call below returns 0, or a refusal, and then nothing happened; `queue` and `first` return 1 or 0.
+/* The calls of a place. Each returns 0 (`queue` and `first`: 1 or 0), or a refusal, and then nothing happened.
  *
- * A place's number belongs to one thread at a time: from its entering until it has left the place is that thread's,
- * and each call of another thread at the place is refused by 103.
+ * A place belongs to one thread at a time, from its `enter` until it has left. A call of another thread by that place
+ * is refused with 103. A place that acts is refused with 101 if its number is 64 or more, with 103 if it is
+ * another thread's, and with 104 if it is outside. After that, if the call has a condition, it is refused with 105 if
+ * there is no such condition, and with 106 if the condition is of the other kind.
  *
- * enter: 101 (no such place), 103 (it is inside, waits, or is another thread's), 107 (no monitor). It may block. */
+ * Lets `place` (below the number of places) enter, and returns 0. Blocks until it can enter. Refused: 101 no such
+ * place, 107 no monitor, 103 the place is inside, waits, or is another thread's. */
 ZAULINTE_CODE zaulinte_enter(zaulinte_monitor *m, uint32_t place);
-/* The same without blocking: 102 if the monitor isn't free. docs/KERNEL.md says which calls an interrupt handler of a
- * kernel may make. */
+/* Lets `place` enter if the monitor is free at this moment, and returns 0. Never blocks. Refused: 101, 107 and 103 as
+ * `enter`, 102 the monitor isn't free. docs/KERNEL.md has the calls that an interrupt handler of a kernel may make. */
 ZAULINTE_CODE zaulinte_try_enter(zaulinte_monitor *m, uint32_t place);
-/* An act of the place inside: 101 (a place of 64 or more), 103 (it is another thread's), 104 (it is outside), 105,
- * 106. */
+/* Lets `place` leave, and returns 0. Refused: 101, 103, 104. */
 ZAULINTE_CODE zaulinte_leave(zaulinte_monitor *m, uint32_t place);
+/* Lets `place` wait on `condition` (below the number of conditions) with `priority`, any number; a signal resumes the
+ * waiter of least priority, of equal ones the longest waiting. Blocks until the place is resumed, and returns 0: it is
+ * inside. Refused: 101, 103, 104, 105. */
 ZAULINTE_CODE zaulinte_wait(zaulinte_monitor *m, uint32_t place, uint32_t condition, uint64_t priority);
-/* Signals one of Hoare's conditions: the resumed place is inside at once. *resumed, a word of the thread's own or NULL,
- * is whether a place waited. */
+/* Lets `place` signal `condition`, one of Hoare's. If a place waits on it, that place is inside at once, and the call
+ * blocks until `place` returns. Returns 0, with `place` inside. Writes to *resumed, a word of the thread's own, true if
+ * a place waited, else false; `resumed` may be NULL. Refused: 101, 103, 104, 105, 106 a Mesa condition. */
 ZAULINTE_CODE zaulinte_signal(zaulinte_monitor *m, uint32_t place, uint32_t condition, bool *resumed);
+/* Lets `place` signal `condition`, one of Hoare's, and leave, in one step; returns 0. Writes *resumed, and is refused,
+ * as `signal`. */
 ZAULINTE_CODE zaulinte_signal_leave(zaulinte_monitor *m, uint32_t place, uint32_t condition, bool *resumed);
-/* Notifies on a Mesa condition: a notified place resumes later, and tests again. *called, or NULL, is how many were. */
+/* Lets `place` notify the waiter on the Mesa condition `condition` that a signal would resume, and returns 0. The
+ * notified place resumes later, and tests again. Writes the number of notified places, 1 or 0, to *called, which may be
+ * NULL. Refused: 101, 103, 104, 105, 106 one of Hoare's conditions. */
 ZAULINTE_CODE zaulinte_notify(zaulinte_monitor *m, uint32_t place, uint32_t condition, uint64_t *called);
+/* Lets `place` notify all waiters on the Mesa condition `condition`, and returns 0. Writes their number, at most 63, to
+ * *called, which may be NULL. Refused as `notify`. */
 ZAULINTE_CODE zaulinte_broadcast(zaulinte_monitor *m, uint32_t place, uint32_t condition, uint64_t *called);
-/* Questions of the place inside: whether a place waits there (a notified one doesn't), 1 or 0; the same, and at 1
- * *priority is that of the place that a signal would resume; how many wait. */
+/* Returns 1 if a place waits on `condition` (a notified place doesn't), else 0. Refused: 101, 103, 104, 105. */
 ZAULINTE_CODE zaulinte_queue(zaulinte_monitor *m, uint32_t place, uint32_t condition);
+/* Returns 1 if a place waits on `condition`, and writes the priority of the place that a signal would resume to
+ * *priority. Else returns 0. Refused: 101, 103, 104, 105. Unless 1 is returned, *priority stays. */
 ZAULINTE_CODE zaulinte_first(zaulinte_monitor *m, uint32_t place, uint32_t condition, uint64_t *priority);
+/* Writes the number of places that wait on `condition` to *count, which may be NULL, and returns 0. Refused: 101, 103,
+ * 104, 105; *count then stays. */
 ZAULINTE_CODE zaulinte_count(zaulinte_monitor *m, uint32_t place, uint32_t condition, uint64_t *count);
 
-/* Says what holds of the data. Call it after `make`, before any thread enters. A build with ZAULINTE_CHECKS tests
- * it at each wait, signal and leave; if it doesn't hold, the build prints which of the three, place and condition, and
- * aborts. Another build tests nothing. */
+/* Sets what holds of the data, `context`. Call it after `zaulinte_make`, before any thread enters. A build with
+ * ZAULINTE_CHECKS tests it at each wait, signal and leave. If a check fails, it prints to standard error which of the
+ * three, the place and what it does on which condition, and aborts. A build without ZAULINTE_CHECKS tests nothing. */
 void zaulinte_check(zaulinte_monitor *m, zaulinte_inv inv, zaulinte_rest rest, zaulinte_ready ready, void *context);
 
-/* Returns the meaning of a code. */
+/* Returns the meaning of a code, of zaulinte_head.h too, as English text without a full stop. */
 static inline const char *zaulinte_text(uint64_t code) {
     switch (code) {
     case ZAULINTE_DONE: return "done";
@@ -162,14 +183,17 @@ static inline const char *zaulinte_text(uint64_t code) {
 }
 
 #if __STDC_HOSTED__
-/* Tests the code of a call: a refusal prints file, line, call and text, and aborts. */
+/* Tests the code that a call returned. If it isn't 0, prints file, line, call, text and code to standard error, and
+ * aborts. Not for `queue` and `first`, which may return 1. */
 #define ZAULINTE_CHECK(call) zaulinte_test((call), #call, __FILE__, __LINE__)
 static inline void zaulinte_test(uint64_t code, const char *call, const char *file, int line) {
     if (!code) return;
     fprintf(stderr, "%s:%d: %s: %s (%d)\n", file, line, call, zaulinte_text(code), (int)code);
     abort();
 }
-/* Makes a monitor in memory of its own. A null pointer, and *code, or NULL, is why: 108 to 111. */
+/* Makes a monitor in memory of its own, with the sizes of `zaulinte_make`, and returns it. Writes 0 to *code, which may
+ * be NULL. Returns a null pointer if it is refused, and writes the reason to *code: 109 bad number of places, 110 bad
+ * number of conditions or of Mesa conditions, 111 an allocation failed. */
 static inline zaulinte_monitor *zaulinte_new(uint64_t places, uint64_t conditions, uint64_t mesa, uint64_t *code) {
     void *at = aligned_alloc(64, sizeof(zaulinte_monitor));
     zaulinte_monitor *m = (zaulinte_monitor *)(at ? memset(at, 0, sizeof *m) : NULL);
@@ -179,7 +203,7 @@ static inline zaulinte_monitor *zaulinte_new(uint64_t places, uint64_t condition
     free(m);
     return NULL;
 }
-/* Undoes it: 0, or 112, and nothing happened. */
+/* Frees a monitor of `zaulinte_new` and its memory, and returns 0. Refused as `zaulinte_free`, and the memory stays. */
 static inline ZAULINTE_CODE zaulinte_delete(zaulinte_monitor *m) {
     uint64_t refused = zaulinte_free(m);
     if (!refused) free(m);

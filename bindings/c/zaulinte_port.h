@@ -10,15 +10,15 @@
  *                         compiled with two ports doesn't link;
  *   ZAULINTE_BELL_FIELDS  the fields of a bell besides its word, if there are any. A thread sleeps on a bell.
  * Then by zaulinte_monitor.c alone, with ZAULINTE_PORT_CODE defined; there it defines
- *   port_make, port_free  set up and undo the fields of a bell.
- *   port_sleep_while      blocks the calling thread while the bell's word is `is`. The test of the word and the falling
- *                         asleep are one step to `port_wake_one`: if another thread changes the word and then wakes
- *                         one, this thread doesn't sleep through that. It may return early, at any time. A cancelled
- *                         thread sleeps on.
+ *   port_make, port_free  set up the fields of a bell, and undo that.
+ *   port_sleep_while      blocks the calling thread while the bell's word is `is`. For `port_wake_one` the test of the
+ *                         word and the falling asleep are one step: if another thread changes the word and then wakes
+ *                         a thread, this thread doesn't sleep through that. May return early, at any time. A thread
+ *                         that is cancelled still sleeps.
  *   port_wake_one         wakes one thread that sleeps on the bell, if there is one. Never blocks. If interrupt
- *                         handlers leave monitors, it can be called from one.
+ *                         handlers leave monitors, an interrupt handler can call it.
  * It may define two macros, which have a default below:
- *   port_relax()          tells the processor that this is a loop that polls a word.
+ *   port_relax()          is a hint to the processor that this is a loop that polls a word.
  *   port_thread()         returns a number of the calling thread, not 0, that no other living thread has. */
 /* Why no wake-up is lost. Each act of a place is one step of the door (zaulinte_door.h). A step that releases the
  * monitor returns the place that has it next, or that it is free. Each step is a sequentially consistent operation on
@@ -29,14 +29,16 @@
  * the word rung, and the thread doesn't sleep, or the exchange finds ASLEEP, and the thread is woken. A place is rung
  * once for each return.
  *
- * A newcomer. If its attempt to enter fails, it writes ASLEEP to the entrance's word, tries again, and sleeps only if
- * that fails too. Then another place has the monitor, or is owed it. The step that later leaves the monitor free comes
- * after the failed attempt, so after the writing; after that step its thread reads the word. It finds ASLEEP, unless
- * another such thread has found it before. The thread that finds it clears the word, and wakes one newcomer.
- *  - The woken newcomer writes ASLEEP again before it tries, since the cleared word hides other sleepers. If it enters,
- *    its own leaving wakes the next; if it fails, all that was said of the first holds of it.
- *  - If no newcomer slept yet, those that were about to find that the word has changed, write, and try again. If one
- *    finds ASLEEP, yet another newcomer wrote that later, is awake, and tries after it: the same holds of that one. */
+ * An entering thread E. If its attempt to enter fails, E writes ASLEEP to the entrance's word, tries again, and sleeps
+ * only if that attempt fails too. Then another place has the monitor, or is owed it. The step that later leaves the
+ * monitor free comes after the failed attempt, so after E's write; after that step the releasing thread reads the word.
+ * It finds ASLEEP, unless another releasing thread has found it before. The thread that finds ASLEEP clears the word,
+ * and wakes one entering thread.
+ *  - The woken thread writes ASLEEP again before it tries, since the cleared word hides other sleepers. If it enters,
+ *    its own leave wakes the next. If it fails, all that was said of E holds of it.
+ *  - If no entering thread slept yet, those that were about to sleep find that the word has changed, write ASLEEP, and
+ *    try again. If one of them finds ASLEEP, another entering thread F has written that later. F is awake, and tries
+ *    after that write: the same holds of F. */
 #include "zaulinte_version.h" /* an installed one has the choices of the library */
 #ifndef ZAULINTE_PORT
 #ifdef __linux__
@@ -55,10 +57,10 @@
 #error "compile zaulinte_monitor.c as C"
 #endif
 #ifndef ZAULINTE_POLLS
-#define ZAULINTE_POLLS 500 /* hints for which a thread polls before it sleeps, at its place's bell or at the entrance */
+#define ZAULINTE_POLLS 500 /* hints for which a thread polls its place's bell, or the entrance, before it sleeps */
 #endif
 #ifndef ZAULINTE_BACK_OFF
-#define ZAULINTE_BACK_OFF 128 /* hints for which a place lets others enter, after one that left handed it the monitor */
+#define ZAULINTE_BACK_OFF 128 /* hints for which a place lets others enter, after it got the monitor by a leave */
 #endif
 #ifndef port_relax
 static inline void port_relax(void) {
@@ -76,7 +78,7 @@ static inline uintptr_t port_thread(void) {
 }
 #endif
 
-/* ThreadSanitizer doesn't see into the archive: it is shown that a visit comes after the one before. */
+/* ThreadSanitizer doesn't see into the archive: these two calls show it that a visit comes after the visit before. */
 #ifdef __SANITIZE_THREAD__
 #define ZAULINTE_WATCHED
 #elif defined(__has_feature)

@@ -18,7 +18,7 @@ static inline void port_free(zaulinte_bell *b) {
     pthread_cond_destroy(&b->rung);
     pthread_mutex_destroy(&b->lock);
 }
-/* The lock makes the test and the falling asleep one step. */
+/* Sleeps while the word is `is`. The lock makes the test and the falling asleep one step. */
 static inline void port_sleep_while(zaulinte_bell *b, uint32_t is) {
     int was;
     pthread_setcancelstate(PTHREAD_CANCEL_DISABLE, &was);

@@ -1,5 +1,5 @@
-/* zaulinte_port_poll.h: no thread sleeps; one that would yields, and polls again. The least that a port can be.
- * zaulinte_port.h says what a port owes. NOT PROVED. */
+/* zaulinte_port_poll.h: no thread sleeps; a thread that would sleep yields and polls again. The least that a port can
+ * be. zaulinte_port.h says what a port owes. NOT PROVED. */
 #ifndef ZAULINTE_PORT_CODE
 
 #define ZAULINTE_PORT_NAME poll

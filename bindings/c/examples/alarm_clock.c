@@ -1,5 +1,5 @@
-/* An alarm clock, after Hoare: wake_me waits with the time of waking as its priority; a tick resumes a sleeper whose
- * time has come, and each that is resumed resumes the next. */
+/* An alarm clock, after Hoare: wake_me waits with the time of waking as its priority. A tick resumes a sleeper whose
+ * time has come, and each resumed sleeper resumes the next. */
 #include "zaulinte_monitor.h"
 #include <pthread.h>
 #include <sched.h>

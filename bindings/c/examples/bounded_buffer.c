@@ -1,4 +1,4 @@
-/* A bounded buffer, after Hoare: append waits while it is full, remove while it is empty. */
+/* A bounded buffer, after Hoare: append waits while the buffer is full, remove while it is empty. */
 #include "zaulinte_monitor.h"
 #include <pthread.h>
 #include <stdio.h>

@@ -1,5 +1,5 @@
 /* Hoare's disk head: a request waits for the sweep that reaches its cylinder, and a release hands the drive to the next
- * one of the present sweep. The decisions are the proved steps of zaulinte_head.h. */
+ * request of the present sweep. The decisions are the proved steps of zaulinte_head.h. */
 #include "zaulinte_head.h"
 #include "zaulinte_monitor.h"
 #include <pthread.h>
@@ -11,7 +11,7 @@ static struct {
     zaulinte_monitor m;
     zaulinte_head head;
 } disk;
-static uint64_t travelled, at, granted; /* touched by the place that has the drive alone */
+static uint64_t travelled, at, granted; /* touched only by the place that has the drive */
 
 static void request(uint32_t place, uint64_t cylinder) {
     uint64_t sweep, priority;

@@ -1,4 +1,4 @@
-/* A single resource, after Hoare: acquire waits while it is busy, by priority; release hands it over. */
+/* A single resource, after Hoare: acquire waits, by priority, if it is busy; release hands it to the next waiter. */
 #include "zaulinte_monitor.h"
 #include <pthread.h>
 #include <stdio.h>
@@ -8,7 +8,7 @@ static struct {
     zaulinte_monitor m;
     bool busy;
 } resource;
-static long used; /* touched by the place that has the resource alone */
+static long used; /* touched only by the place that has the resource */
 
 static void acquire(uint32_t place, uint64_t priority) {
     ZAULINTE_CHECK(zaulinte_enter(&resource.m, place));

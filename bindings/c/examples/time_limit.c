@@ -1,6 +1,6 @@
 /* A wait with a time limit: the deadline is the priority, and a clock thread resumes every waiter that is due. A signal
- * resumes the waiter with the earliest deadline and hands the monitor over, so `by_clock` is as the signaller wrote it:
- * it tells the waiter whether an item is there, or the time is over. No item is lost, and none is taken twice. */
+ * resumes the waiter with the earliest deadline at once, so `by_clock` is as the signaller wrote it: by it the waiter
+ * knows if an item is there, or if its time is over. No item is lost, and none is taken twice. */
 #define _GNU_SOURCE
 #include "zaulinte_monitor.h"
 #include <pthread.h>

@@ -9,8 +9,8 @@
 //         in->free--;
 //     }                                            // it leaves
 //
-// A refused call throws `refused`, and nothing happened. No destructor throws: if an exception leaves the scope, the
-// place leaves the monitor, with the data as they are.
+// A refused call throws `refused`, and nothing happened. No destructor throws. If an exception leaves the scope of an
+// `inside`, its place leaves the monitor, with the data as they are.
 #pragma once
 #include "zaulinte_monitor.h"
 #include <cstdint>
@@ -21,9 +21,9 @@
 #include <string>
 #include <utility>
 
-// Declares `enum class name` with up to eight conditions, and what a monitor reads of it: how many, and their names.
+// Declares `enum class name` with up to eight conditions, and what a monitor reads of it: their number and their names.
 #define ZAULINTE_CONDITIONS(name, ...) ZAULINTE_CONDITIONS_AS(inline, name, __VA_ARGS__)
-// The same in a class.
+// Declares such an enum inside a class.
 #define ZAULINTE_CONDITIONS_IN_CLASS(name, ...) ZAULINTE_CONDITIONS_AS(friend, name, __VA_ARGS__)
 #define ZAULINTE_CONDITIONS_AS(linkage, name, ...) \
     enum class name : std::uint32_t { __VA_ARGS__ }; \
@@ -31,15 +31,16 @@
     static_assert(zaulinte::condition_names{#__VA_ARGS__}.are_plain(), "a condition has a value of its own")
 
 namespace zaulinte {
-// The names of an enum of conditions, with commas between.
+// The names of an enum of conditions, as one text with commas between.
 struct condition_names {
     const char *all;
+    // Returns the number of conditions.
     constexpr unsigned count() const noexcept {
         unsigned many = *all != 0;
         for (const char *c = all; *c; c++) many += *c == ',';
         return many;
     }
-    // Whether the values are 0, 1, 2 ..: there is no `=`, and no comma after the last name.
+    // Returns true if the values are 0, 1, 2 ..: there is no `=`, and no comma after the last name.
     constexpr bool are_plain() const noexcept {
         char last = 0;
         for (const char *c = all; *c; c++) {
@@ -48,6 +49,7 @@ struct condition_names {
         }
         return last != ',';
     }
+    // Returns the name of the condition with this value.
     std::string name(unsigned index) const {
         const char *c = all;
         for (; index > 0; c++) index -= *c == ',';
@@ -57,8 +59,11 @@ struct condition_names {
         return found;
     }
 };
+// The enum of a monitor without conditions of one kind.
 ZAULINTE_CONDITIONS(no_conditions, );
 
+// What a refused call throws. `code` returns the code of zaulinte_monitor.h; `what` names the call, the place and, if
+// there is one, the condition.
 class refused : public std::logic_error {
     std::uint64_t why;
 
@@ -68,7 +73,7 @@ class refused : public std::logic_error {
     std::uint64_t code() const noexcept { return why; }
 };
 
-// Data T with Hoare's conditions C and Mesa conditions M, enums by ZAULINTE_CONDITIONS.
+// A monitor with data T, Hoare's conditions C and Mesa conditions M, both enums of ZAULINTE_CONDITIONS: 1 to 8 in all.
 template <class T, class C, class M = no_conditions> class monitor {
     static constexpr condition_names hoare = zaulinte_names(C{}), mesa = zaulinte_names(M{});
     static constexpr unsigned conditions = hoare.count() + mesa.count();
@@ -77,7 +82,7 @@ template <class T, class C, class M = no_conditions> class monitor {
     zaulinte_monitor m{};
     T data;
 
-    // A condition's number. By a cast a value may be any: it is refused, if no condition has it.
+    // Returns the number of a condition, or, if a cast made a value that no condition has, a number that is refused.
     static std::uint32_t at(C c) noexcept { return number_of(c, 0); }
     static std::uint32_t at(M c) noexcept { return number_of(c, hoare.count()); }
     template <class E> static std::uint32_t number_of(E c, unsigned first) noexcept {
@@ -93,7 +98,7 @@ template <class T, class C, class M = no_conditions> class monitor {
         std::string on = n < zaulinte_names(c).count() ? zaulinte_names(c).name(n) : std::to_string(n);
         throw refused(code, std::string(call) + " by place " + std::to_string(place) + " on condition " + on);
     }
-    // The place leaves in a destructor. It is inside, so it isn't refused.
+    // Lets the place leave, in a destructor. The place is inside, so this isn't refused.
     void leaves(unsigned place) noexcept {
         if (zaulinte_leave(&m, place)) std::terminate();
     }
@@ -103,18 +108,22 @@ template <class T, class C, class M = no_conditions> class monitor {
     using condition_type = C;
     using mesa_condition_type = M;
 
+    // Makes a monitor of 1 to 64 places; `a` are the arguments of T's constructor. Throws `refused`: 109 bad number of
+    // places, 111 an allocation failed.
     template <class... A> explicit monitor(unsigned number_of_places, A &&...a) : data(std::forward<A>(a)...) {
         std::uint64_t code = zaulinte_make(&m, number_of_places, conditions, mesa.count());
         if (code) throw refused(code, "a monitor of " + std::to_string(number_of_places) + " places");
     }
     monitor(const monitor &) = delete;
     monitor &operator=(const monitor &) = delete;
-    // Its threads have ended, or make no more calls. If a place is inside or waits, the program is terminated.
+    // Frees the monitor. Before that its threads have ended, or make no more calls. If a place is inside or waits, the
+    // program is terminated.
     ~monitor() {
         if (zaulinte_free(&m)) std::terminate();
     }
 
-    // The waiters, for a check: how many, and the priority of the one that a signal would resume.
+    // The waiters on each condition, for a check: `count` is their number, `first` the priority of the waiter that a
+    // signal would resume, if there is one.
     class waiting {
         const zaulinte_waiting &all;
         friend class monitor;
@@ -126,13 +135,14 @@ template <class T, class C, class M = no_conditions> class monitor {
             return count(c) ? std::optional<std::uint64_t>(all.first[at(c)]) : std::nullopt;
         }
     };
-    // What holds of the data, for a build with ZAULINTE_CHECKS (`zaulinte_check`). A null pointer holds always.
+    // What holds of the data, for a build with ZAULINTE_CHECKS. `zaulinte_check` describes the three functions. A null
+    // pointer instead of a function holds always.
     struct checks {
         bool (*inv)(const T &);
         bool (*rest)(const T &, const waiting &);
         bool (*ready)(const T &, C, std::uint64_t priority, const waiting &);
     };
-    // Before any thread enters.
+    // Sets what holds of the data. Call it before any thread enters.
     void check(const checks &c) noexcept {
         tested = c;
         zaulinte_check(&m, tests_inv, tests_rest, tests_ready, this);
@@ -154,7 +164,7 @@ template <class T, class C, class M = no_conditions> class monitor {
     }
 
   public:
-    // A place inside. Its destructor leaves.
+    // A place that is inside, with access to the data. Its destructor leaves.
     class inside {
         monitor *of;
         unsigned number;
@@ -175,46 +185,53 @@ template <class T, class C, class M = no_conditions> class monitor {
         T *operator->() { return holds("->"), &of->data; }
         T &operator*() { return holds("*"), of->data; }
 
-        // Waits on a condition of either kind.
+        // Waits on a condition of either kind, and blocks until the place is resumed. Of the waiters a signal resumes
+        // that of least priority, of equal ones the longest waiting.
         template <class E> void wait(E c, std::uint64_t priority = 0) {
             must(zaulinte_wait(holds("wait"), number, at(c), priority), "wait", number, c);
         }
-        // Hands the monitor to the place that it resumes. Returns true if a place waited.
+        // Signals one of Hoare's conditions. If a place waits on it, hands off the monitor to it, and blocks until this
+        // place is inside again. Returns true if a place waited.
         bool signal(C c) {
             bool was = false;
             must(zaulinte_signal(holds("signal"), number, at(c), &was), "signal", number, c);
             return was;
         }
-        // The same as the last act: afterwards the place is outside, and this object refuses every call.
+        // Signals one of Hoare's conditions as the last act: afterwards the place is outside, and this object refuses
+        // every call. Returns true if a place waited.
         bool signal_leave(C c) {
             bool was = false;
             must(zaulinte_signal_leave(holds("signal_leave"), number, at(c), &was), "signal_leave", number, c);
             is = false;
             return was;
         }
-        // Mesa conditions. Returns how many were notified.
+        // Notifies the waiter on a Mesa condition that a signal would resume. Returns how many were notified, 1 or 0.
         std::uint64_t notify(M c) {
             std::uint64_t many = 0;
             must(zaulinte_notify(holds("notify"), number, at(c), &many), "notify", number, c);
             return many;
         }
+        // Notifies all waiters on a Mesa condition. Returns how many were notified.
         std::uint64_t broadcast(M c) {
             std::uint64_t many = 0;
             must(zaulinte_broadcast(holds("broadcast"), number, at(c), &many), "broadcast", number, c);
             return many;
         }
+        // Leaves: afterwards the place is outside, and this object refuses every call.
         void leave() {
             must(zaulinte_leave(holds("leave"), number), "leave", number);
             is = false;
         }
 
+        // Returns true if a place waits on the condition (a notified place doesn't).
         template <class E> bool queue(E c) { return count(c) > 0; }
+        // Returns the number of places that wait on the condition.
         template <class E> std::uint64_t count(E c) {
             std::uint64_t many = 0;
             must(zaulinte_count(holds("count"), number, at(c), &many), "count", number, c);
             return many;
         }
-        // The priority of the place that a signal would resume, if one waits.
+        // Returns the priority of the place that a signal would resume, or nothing if no place waits.
         template <class E> std::optional<std::uint64_t> first(E c) {
             std::uint64_t priority = 0, some = zaulinte_first(holds("first"), number, at(c), &priority);
             must(some > 1 ? some : 0, "first", number, c);
@@ -222,11 +239,12 @@ template <class T, class C, class M = no_conditions> class monitor {
         }
     };
 
+    // Lets the place with this number enter, and blocks until it can.
     [[nodiscard]] inside enter(unsigned number) {
         must(zaulinte_enter(&m, number), "enter", number);
         return inside(this, number);
     }
-    // Enters if the monitor is free at this moment, else returns null.
+    // Lets the place with this number enter if the monitor is free at this moment, else returns null.
     [[nodiscard]] std::unique_ptr<inside> try_enter(unsigned number) {
         std::unique_ptr<inside> in(new inside(this, number));
         std::uint64_t code = zaulinte_try_enter(&m, number);
@@ -236,7 +254,7 @@ template <class T, class C, class M = no_conditions> class monitor {
     }
 };
 
-// A place: one thread's at a time. One that was moved from refuses every call.
+// A place of a monitor, which belongs to one thread at a time. After a move, the source refuses every call.
 template <class M> class place {
     M *of;
     unsigned number;

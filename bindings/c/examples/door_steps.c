@@ -1,7 +1,7 @@
 /* The door's steps, by one thread for two places: the waiter waits, the signaller signals, the waiter returns and
- * leaves, and the signaller returns. A step that releases the monitor returns the number of the place whose thread is to be
- * woken. It is the number that `give_out` returned for that place, and so the index of its thread's bell. A bell is a
- * name here. C, and C++ as well. */
+ * leaves, and the signaller returns. A step that releases the monitor returns the number of the place whose thread is
+ * to be woken. It is the number that `give_out` returned for that place, and so the index of its thread's bell. A bell
+ * is a name here. C, and C++ as well. */
 #include "zaulinte_door.h"
 #include <stdio.h>
 

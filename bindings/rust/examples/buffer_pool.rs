@@ -1,5 +1,5 @@
-//! Buffers for several streams, after Hoare: a stream waits if no buffer is free, and of the streams that wait the one
-//! that holds the fewest goes first.
+//! Buffers for several streams, after Hoare: a stream waits if no buffer is free. Of the waiting streams, the
+//! stream that holds the fewest buffers gets the next.
 use std::thread;
 use zaulinte::{conditions, Checks, Monitor, Place};
 

@@ -1,10 +1,11 @@
-//! A single resource, after Hoare: `acquire` waits if it is busy, by priority, and `release` hands it over.
+//! A single resource, after Hoare: `acquire` waits, by priority, if it is busy, and `release` hands it to the next
+//! waiter.
 use std::thread;
 use zaulinte::{conditions, Checks, Monitor, Place};
 
 conditions! { enum When { NotBusy } }
 
-type User = Place<bool, When>; // true if it is busy
+type User = Place<bool, When>; // the data: true if the resource is busy
 
 fn acquire(user: &mut User, priority: u64) {
     let mut busy = user.enter().unwrap();

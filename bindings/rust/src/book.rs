@@ -67,25 +67,27 @@ impl Book {
     }
 
     steps! {
-        /// The place enters. Refused: `NoPlace`, `NotFree`, `NotOutside`.
+        /// Lets the place enter. Refused: `NoPlace`, `NotFree`, `NotOutside`.
         enter(place: usize) by zaulinte_book_enter;
-        /// The place inside leaves. Refused: `NoPlace`, `NotInside`.
+        /// Lets the place inside leave. Refused: `NoPlace`, `NotInside`.
         leave(place: usize) by zaulinte_book_leave;
-        /// The place inside waits. Refused: `NoPlace`, `NotInside`, `NoCondition`.
+        /// Lets the place inside wait. Refused: `NoPlace`, `NotInside`, `NoCondition`.
         wait(place: usize, condition: usize, priority: u64) by zaulinte_book_wait;
-        /// The place inside signals. Refused: `NoPlace`, `NotInside`, `NoCondition`, `WrongKind`.
+        /// Lets the place inside signal one of Hoare's conditions. Refused: `NoPlace`, `NotInside`, `NoCondition`,
+        /// `WrongKind`.
         signal(place: usize, condition: usize) by zaulinte_book_signal;
-        /// The place inside signals and leaves. Refused: `NoPlace`, `NotInside`, `NoCondition`, `WrongKind`.
+        /// Lets the place inside signal one of Hoare's conditions, and leave. Refused: `NoPlace`, `NotInside`,
+        /// `NoCondition`, `WrongKind`.
         pass(place: usize, condition: usize) by zaulinte_book_pass;
-        /// The place inside notifies the place that a signal would resume. Refused: `NoPlace`, `NotInside`,
+        /// Lets the place inside notify the place that a signal would resume. Refused: `NoPlace`, `NotInside`,
         /// `NoCondition`, `WrongKind`.
         notify(place: usize, condition: usize) by zaulinte_book_notify;
-        /// The place inside notifies all places that wait there. Refused: `NoPlace`, `NotInside`, `NoCondition`,
-        /// `WrongKind`.
+        /// Lets the place inside notify all places that wait on a Mesa condition. Refused: `NoPlace`, `NotInside`,
+        /// `NoCondition`, `WrongKind`.
         broadcast(place: usize, condition: usize) by zaulinte_book_broadcast;
     }
 
-    /// Returns the place inside.
+    /// Returns the place that is inside, if any is.
     pub fn now(&mut self) -> Option<usize> {
         // SAFETY: the book was made, and the archive alone writes it
         let code = unsafe { zaulinte_book_now(&mut self.0) };
@@ -113,7 +115,8 @@ impl Book {
         }
     }
 
-    /// Returns the priority of the place that a signal would resume, if any waits there. Refused: `NoCondition`.
+    /// Returns the priority of the place that a signal would resume, if any waits on the condition. Refused:
+    /// `NoCondition`.
     pub fn first(&mut self, condition: usize) -> Result<Option<u64>, Refused> {
         let mut priority = 0;
         // SAFETY: the book was made, and the archive alone writes it

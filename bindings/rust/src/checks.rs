@@ -1,4 +1,4 @@
-//! What holds of a monitor's data, and its tests. In Rattle a proof shows it; a debug build tests it here.
+//! What holds of a monitor's data, and the tests of that. In Rattle a proof shows it; a debug build tests it here.
 use crate::conditions::{Condition, NoConditions};
 use crate::{Inside, Port};
 use core::fmt;
@@ -50,17 +50,17 @@ impl<C: Condition, M: Condition> fmt::Debug for Waiting<C, M> {
 /// by a thread that panics. A check that panics itself poisons as well.
 ///
 /// - `inv` holds always; tested whenever the monitor is released.
-/// - `rest` holds if nobody waits without a cause; tested at a leave and at a wait, with the places that wait (the one
-///   that begins to wait included).
-/// - `ready` holds for a place that a signal resumes; tested with its condition and priority, and the places that wait
-///   still.
+/// - `rest` holds if no place waits without a cause; tested at a leave and at a wait, with the places that wait (the
+///   place that begins to wait included).
+/// - `ready` holds for a place that a signal resumes; tested with its condition and priority, and the places that still
+///   wait.
 ///
 /// Only `rest` finds a forgotten signal, or one on the wrong condition. The functions capture nothing: what they
 /// compare with, a limit say, is kept in the data.
 pub struct Checks<T, C, M = NoConditions> {
     /// Holds always.
     pub inv: fn(data: &T) -> bool,
-    /// Holds whenever the monitor is released and nobody is resumed.
+    /// Holds at a leave and at a wait.
     pub rest: fn(data: &T, waiting: &Waiting<C, M>) -> bool,
     /// Holds at a signal, for the place that it resumes.
     pub ready: fn(condition: C, priority: u64, data: &T, waiting: &Waiting<C, M>) -> bool,
@@ -68,7 +68,7 @@ pub struct Checks<T, C, M = NoConditions> {
 
 impl<T, C, M> Default for Checks<T, C, M> {
     /// Returns checks that hold always, and find nothing. With this `rest` a forgotten signal isn't found: the waiter
-    /// sleeps for ever, and nothing says so.
+    /// sleeps for ever, and no check reports it.
     fn default() -> Self {
         Checks { inv: |_| true, rest: |_, _| true, ready: |_, _, _, _| true }
     }

@@ -27,10 +27,10 @@ const NOBODY: u64 = 64;
 /// `ZAULINTE_DOOR_NOT_NOW`.
 const NOT_NOW: u64 = 102;
 
-/// The place that a step named, whose thread is to be woken.
+/// The place that a step returned, whose thread is to be woken.
 pub(crate) type Next = Option<usize>;
 
-/// Returns what a step returned.
+/// Returns the number that a step returned.
 ///
 /// # Panics
 /// If the step was refused: this crate makes no such call.
@@ -51,8 +51,8 @@ fn has_entered(code: u64) -> bool {
 pub(crate) struct Door(Handle);
 
 impl Door {
-    /// Makes a door whose last `mesa` conditions are Mesa conditions. Refused: `BadPlaces`, `BadConditions`,
-    /// `NoMemory`.
+    /// Makes a door of 1 to 64 places and 1 to 8 conditions, the last `mesa` of which are Mesa conditions. Refused:
+    /// `BadPlaces`, `BadConditions`, `NoMemory`.
     pub(crate) fn new(places: usize, conditions: usize, mesa: usize) -> Result<Door, Refused> {
         let mut door = Door(Handle::EMPTY);
         // SAFETY: the handle is empty
@@ -93,7 +93,7 @@ pub(crate) struct Seat {
 
 // SAFETY, of each call: `give_out` filled the handle, which the archive alone wrote since, and `&mut` has it alone
 impl Seat {
-    /// Returns the number by which a step names this place, below the number of places.
+    /// Returns the number by which a step returns this place, below the number of places.
     pub(crate) fn number(&self) -> usize {
         self.number
     }
@@ -103,37 +103,38 @@ impl Seat {
         has_entered(unsafe { zaulinte_door_try_enter(&mut self.handle) })
     }
 
-    /// Returns inside if the monitor is owed to this place at this moment; returns true if so.
+    /// Returns from a wait or a signal if the monitor is owed to this place at this moment; returns true if so.
     pub(crate) fn try_return(&mut self) -> bool {
         has_entered(unsafe { zaulinte_door_try_return(&mut self.handle) })
     }
 
-    /// Leaves.
+    /// Leaves the monitor.
     pub(crate) fn leave(&mut self) -> Next {
         next(unsafe { zaulinte_door_leave(&mut self.handle) })
     }
 
-    /// Waits: the place is away then, until `try_return` succeeds.
+    /// Waits on the condition: the place is away then, until `try_return` succeeds.
     pub(crate) fn wait(&mut self, condition: usize, priority: u64) -> Next {
         next(unsafe { zaulinte_door_wait(&mut self.handle, condition as u64, priority) })
     }
 
-    /// Signals. If a place waits there it is the next, and this place is away; else this place is still inside.
+    /// Signals the condition. If a place waits on it, that place is next, and this place is away; else this place is
+    /// still inside.
     pub(crate) fn signal(&mut self, condition: usize) -> Next {
         next(unsafe { zaulinte_door_signal(&mut self.handle, condition as u64) })
     }
 
-    /// Signals and leaves.
+    /// Signals the condition and leaves, in one step.
     pub(crate) fn signal_leave(&mut self, condition: usize) -> Next {
         next(unsafe { zaulinte_door_signal_leave(&mut self.handle, condition as u64) })
     }
 
-    /// Notifies the place that a signal would resume. Returns how many were notified.
+    /// Notifies the place that a signal would resume. Returns how many were notified, 1 or 0.
     pub(crate) fn notify(&mut self, condition: usize) -> usize {
         done(unsafe { zaulinte_door_notify(&mut self.handle, condition as u64) }) as usize
     }
 
-    /// Notifies all places that wait. Returns how many were notified.
+    /// Notifies all places that wait on the condition. Returns how many were notified.
     pub(crate) fn broadcast(&mut self, condition: usize) -> usize {
         done(unsafe { zaulinte_door_broadcast(&mut self.handle, condition as u64) }) as usize
     }
@@ -148,7 +149,7 @@ impl Seat {
         done(unsafe { zaulinte_door_count(&mut self.handle, condition as u64) }) as usize
     }
 
-    /// Returns the priority of the place that a signal would resume.
+    /// Returns the priority of the place that a signal would resume, if any waits on the condition.
     pub(crate) fn first(&mut self, condition: usize) -> Option<u64> {
         let mut priority = 0;
         let code = unsafe { zaulinte_door_first(&mut self.handle, condition as u64, &mut priority) };

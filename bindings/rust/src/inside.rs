@@ -36,7 +36,7 @@ use core::sync::atomic::Ordering::Relaxed;
 /// *kept = 1;
 /// ```
 ///
-/// A guard stays on its thread:
+/// A guard doesn't move to another thread:
 ///
 /// ```compile_fail,E0277
 /// # use zaulinte::{conditions, Monitor};
@@ -78,9 +78,9 @@ impl<'a, T, C: Condition, M: Condition, P: Port> Inside<'a, T, C, M, P> {
         Inside { place, panicked: P::panicking(), stays: PhantomData }
     }
 
-    /// Releases the monitor until a signal on the condition resumes this place: of those that wait there, the longest
-    /// waiting of least priority. The data are then as the signaller left them. Returns an error if a thread panicked
-    /// inside.
+    /// Waits on one of Hoare's conditions: releases the monitor until a signal resumes this place. A signal resumes the
+    /// waiter of least priority, of equal ones the longest waiting. The data are then as the signaller left them.
+    /// Returns an error if a thread panicked inside.
     #[track_caller]
     pub fn wait(&mut self, condition: C, priority: u64) -> LockResult<()> {
         let number = number_of(condition);
@@ -90,8 +90,8 @@ impl<'a, T, C: Condition, M: Condition, P: Port> Inside<'a, T, C, M, P> {
         self.place.inner.or_poisoned(())
     }
 
-    /// Releases the monitor until a notify or a broadcast notified this place and its turn has come. The caller has to
-    /// test again what it waited for. Returns an error if a thread panicked inside.
+    /// Waits on a Mesa condition: releases the monitor until a notify or a broadcast notified this place and its turn
+    /// has come. The caller has to test again what it waited for. Returns an error if a thread panicked inside.
     #[track_caller]
     pub fn wait_mesa(&mut self, condition: M, priority: u64) -> LockResult<()> {
         let number = number_of_mesa::<C, M>(condition);
@@ -100,8 +100,9 @@ impl<'a, T, C: Condition, M: Condition, P: Port> Inside<'a, T, C, M, P> {
         self.place.inner.or_poisoned(())
     }
 
-    /// Hands the monitor to the place that a signal resumes, if any waits there, and returns before any other enters.
-    /// Returns true if a place waited, in an error if a thread panicked inside.
+    /// Signals one of Hoare's conditions. If a place waits on it, hands off the monitor to the place that the signal
+    /// resumes, and returns before any place enters. Returns true if a place waited, in an error if a thread panicked
+    /// inside.
     #[track_caller]
     pub fn signal(&mut self, condition: C) -> LockResult<bool> {
         let number = number_of(condition);
@@ -116,7 +117,7 @@ impl<'a, T, C: Condition, M: Condition, P: Port> Inside<'a, T, C, M, P> {
         self.place.inner.or_poisoned(next.is_some())
     }
 
-    /// Signals as the last act. Returns true if a place waited there.
+    /// Signals one of Hoare's conditions as the last act. Returns true if a place waited on it.
     #[track_caller]
     pub fn signal_leave(mut self, condition: C) -> bool {
         let number = number_of(condition);
@@ -129,13 +130,14 @@ impl<'a, T, C: Condition, M: Condition, P: Port> Inside<'a, T, C, M, P> {
         true
     }
 
-    /// Notifies the place that a signal would resume, and stays inside. Returns true if a place waited there.
+    /// Notifies the waiter on a Mesa condition that a signal would resume, and stays inside. Returns true if a place
+    /// waited on it.
     #[track_caller]
     pub fn notify(&mut self, condition: M) -> bool {
         self.place.seat.notify(number_of_mesa::<C, M>(condition)) > 0
     }
 
-    /// Notifies all places that wait there, and stays inside. Returns how many did.
+    /// Notifies all waiters on a Mesa condition, and stays inside. Returns how many there were.
     #[track_caller]
     pub fn broadcast(&mut self, condition: M) -> usize {
         self.place.seat.broadcast(number_of_mesa::<C, M>(condition))
@@ -153,7 +155,7 @@ impl<'a, T, C: Condition, M: Condition, P: Port> Inside<'a, T, C, M, P> {
         self.place.seat.count(number_of(condition))
     }
 
-    /// Returns the priority of the place that a signal would resume.
+    /// Returns the priority of the place that a signal would resume, if any waits on the condition.
     #[track_caller]
     pub fn first(&mut self, condition: C) -> Option<u64> {
         self.place.seat.first(number_of(condition))
@@ -165,7 +167,7 @@ impl<'a, T, C: Condition, M: Condition, P: Port> Inside<'a, T, C, M, P> {
         self.place.seat.count(number_of_mesa::<C, M>(condition))
     }
 
-    /// Returns the priority of the place that a notify would notify.
+    /// Returns the priority of the place that a notify would notify, if any waits on the condition.
     #[track_caller]
     pub fn first_mesa(&mut self, condition: M) -> Option<u64> {
         self.place.seat.first(number_of_mesa::<C, M>(condition))
@@ -186,7 +188,7 @@ impl<T, C: Condition, M: Condition, P: Port> Inside<'_, T, C, M, P> {
         self.place.inner.occupy();
     }
 
-    /// After a step by which this place went away: returns once it is back inside.
+    /// Blocks, after a step by which this place went away, until the place is inside again.
     fn go_away(&mut self, next: Next) {
         let Place { inner, seat, backs_off, .. } = &mut *self.place;
         *backs_off = inner.parking.go_away(seat, next);

@@ -11,7 +11,7 @@ use core::cell::UnsafeCell;
 use core::fmt;
 use core::sync::atomic::{AtomicBool, Ordering::Acquire, Ordering::Relaxed, Ordering::Release};
 
-/// What the place inside alone uses.
+/// What only the place inside uses.
 pub(crate) struct Own<T> {
     pub(crate) data: T,
     /// The last place that signalled.
@@ -29,12 +29,12 @@ pub(crate) struct Inner<T, C, M, P> {
     pub(crate) own: UnsafeCell<Own<T>>,
 }
 
-// SAFETY: the place inside alone touches `own`, so it only moves between threads. Nobody touches `_door` until it is
-// dropped, and its last owner drops it
+// SAFETY: only the place inside touches `own`, so `own` only moves between threads. No thread touches `_door` until it
+// is dropped, and its last owner drops it
 unsafe impl<T: Send, C, M, P: Sync> Sync for Inner<T, C, M, P> {}
 
 impl<T, C, M, P> Inner<T, C, M, P> {
-    /// Tests, in a debug build, that the door let in one place alone. This also shows the order of the visits to
+    /// Tests, in a debug build, that the door let in only one place. This also shows the order of the visits to
     /// ThreadSanitizer, which doesn't see into the archive.
     pub(crate) fn occupy(&self) {
         if cfg!(debug_assertions) {
@@ -66,7 +66,7 @@ impl<T, C, M, P> Inner<T, C, M, P> {
 /// A monitor of data `T`, with Hoare's conditions `C` and Mesa conditions `M`, 1 to 8 in all. Threads use it by its
 /// [`Place`]s. They sleep and wake by the port `P`.
 ///
-/// If the monitor is dropped while places are left, they keep what they share, and work on.
+/// If the monitor is dropped while places are left, they keep what they share, and continue to work.
 ///
 /// Data that may not move to another thread are refused:
 ///
@@ -77,13 +77,13 @@ impl<T, C, M, P> Inner<T, C, M, P> {
 /// ```
 pub struct Monitor<T, C, M = NoConditions, P = DefaultPort>(Arc<Inner<T, C, M, P>>);
 
-/// A place: the thread that owns it may enter the monitor. It moves between threads, and can't be copied; each act
-/// needs it alone, so two threads can't be under one place.
+/// A place of a monitor: the thread that owns the place may enter. A place moves between threads, and can't be copied.
+/// Each act borrows it as `&mut`, so two threads can't act by one place.
 ///
 /// A place that is dropped goes back to its monitor. If it is still inside then, since a guard was forgotten
 /// (`mem::forget`), it leaves first. Until then no other place enters.
 pub struct Place<T, C, M = NoConditions, P: Port = DefaultPort> {
-    pub(crate) seat: Seat, // in front of `inner`, whose door closes only after the place was given back
+    pub(crate) seat: Seat, // before `inner`, whose door closes only after the place was given back
     pub(crate) inner: Arc<Inner<T, C, M, P>>,
     pub(crate) is_inside: bool,
     /// True if the place was handed the monitor by a place that left.
@@ -99,7 +99,7 @@ impl<T: Send, C: Condition, M: Condition> Monitor<T, C, M> {
         Monitor::checked(data, places, Checks::default())
     }
 
-    /// Makes a monitor as [`Monitor::new`] does, and a debug build tests `checks`. Refused: `BadPlaces`,
+    /// Makes a monitor as [`Monitor::new`] does; a debug build tests `checks`. Refused: `BadPlaces`,
     /// `BadConditions`, `NoMemory`.
     #[allow(clippy::type_complexity)]
     pub fn checked(data: T, places: usize, checks: Checks<T, C, M>) -> Result<(Self, Vec<Place<T, C, M>>), Refused> {
@@ -108,10 +108,10 @@ impl<T: Send, C: Condition, M: Condition> Monitor<T, C, M> {
 }
 
 impl<T: Send, C: Condition, M: Condition, P: Port> Monitor<T, C, M, P> {
-    /// Makes a monitor whose threads sleep and wake by a port of yours, with its 1 to 64 places, each at the index of
-    /// its number. `ports` is called once for each place and once more. A debug build tests `checks`. Refused:
-    /// `BadPlaces`, `BadConditions`, `NoMemory`; then the data are dropped. The last allocation is that of an `Arc`, for
-    /// what the monitor and its places share: if it fails the program ends, as elsewhere in Rust.
+    /// Makes a monitor whose threads sleep and wake by the caller's port `P`, with its 1 to 64 places, each at the
+    /// index of its number. `ports` is called once for each place and once more. A debug build tests `checks`. Refused:
+    /// `BadPlaces`, `BadConditions`, `NoMemory`; then the data are dropped. The last allocation is that of an `Arc`,
+    /// for what the monitor and its places share: if it fails the program ends, as elsewhere in Rust.
     #[allow(clippy::type_complexity)]
     pub fn with_port(
         data: T,
@@ -129,7 +129,7 @@ impl<T: Send, C: Condition, M: Condition, P: Port> Monitor<T, C, M, P> {
         let (poisoned, occupied) = (AtomicBool::new(false), AtomicBool::new(false));
         let own = UnsafeCell::new(Own { data, signaller: 0 });
         let inner = Arc::new(Inner { _door: door, parking, poisoned, occupied, checks, own });
-        seats.reverse(); // the door gave the last one out first
+        seats.reverse(); // the door gave the last place out first
         let place = |seat| Place { seat, inner: Arc::clone(&inner), is_inside: false, backs_off: false };
         all.extend(seats.into_iter().map(place));
         Ok((Monitor(inner), all))
@@ -155,12 +155,12 @@ impl<T: Send, C: Condition, M: Condition, P: Port> Monitor<T, C, M, P> {
 }
 
 impl<T: Send, C: Condition, M: Condition, P: Port> Place<T, C, M, P> {
-    /// Returns its number, from 0.
+    /// Returns the number of the place, from 0.
     pub fn number(&self) -> usize {
         self.seat.number()
     }
 
-    /// Enters, once the monitor is free: no place is inside, is resumed or notified, or has signalled and is yet to
+    /// Enters once the monitor is free: no place is inside, is resumed or notified, or has signalled and is yet to
     /// return. The thread sleeps until then. Returns the guard, in an error if a thread panicked inside, as
     /// `Mutex::lock` does.
     ///
@@ -214,7 +214,7 @@ impl<T, C, M, P: Port> fmt::Debug for Monitor<T, C, M, P> {
 }
 
 impl<T, C, M, P: Port> Place<T, C, M, P> {
-    /// Makes a step by which this place goes outside, and wakes the next thread.
+    /// Makes a step by which this place leaves, and wakes the next thread.
     pub(crate) fn go_outside(&mut self, step: impl FnOnce(&mut Seat) -> Next) {
         self.inner.vacate();
         let next = step(&mut self.seat);

@@ -4,7 +4,7 @@
 //! words of two kinds. All accesses on which the following rests are sequentially consistent: those to these words, and
 //! the door's to its own state word, of which each releasing step writes that the monitor is free or owed.
 //!
-//! *The word of a place.* A place sleeps there while it is away. A step names the place as the next once for each
+//! *The word of a place.* A place sleeps there while it is away. A step returns the place as the next once for each
 //! time that it is away, and the thread that made the step then swaps `OWED` in (`LEFT` if its place left the monitor).
 //! The place changes the word from `NOTHING` to `ASLEEP` before it sleeps, by a compare-exchange, and sleeps only while
 //! it is `ASLEEP`; it writes `NOTHING` again only after it found `OWED` or `LEFT`. If the swap comes after the
@@ -14,13 +14,13 @@
 //!
 //! *The word of the entrance.* All entering threads sleep there. A thread whose attempt failed writes `ASLEEP` and
 //! tries once more. If that fails too, another place had the monitor, or was owed it, at a moment after the write. That
-//! place releases the monitor later, itself or by way of the places that go on before the monitor is free. The thread
+//! place releases the monitor later, itself or by way of the places that resume before the monitor is free. The thread
 //! whose step makes it free reads this word after the step: so it reads `ASLEEP`, or what was written later. If it
 //! reads `ASLEEP` it swaps `NOTHING` in and wakes one thread. The woken thread writes `ASLEEP` again before its next
-//! attempt, since others may sleep still. So while threads sleep here, one thread has yet to act: if the word is
-//! `ASLEEP`, a thread that has yet to try to enter, or to make the monitor free; else a thread that has yet to wake
-//! one, or a woken thread that has yet to write `ASLEEP`. (A thread that wrote `ASLEEP` and then entered costs a
-//! wake-up of nobody.)
+//! attempt, since other threads may still sleep. So while threads sleep here, one thread has yet to act. If the word is
+//! `ASLEEP`, a thread has yet to try to enter, or to make the monitor free. Else a thread has yet to wake an entering
+//! thread, or a woken thread has yet to write `ASLEEP`. (If a thread wrote `ASLEEP` and then entered, a later wake-up
+//! may wake no thread.)
 use crate::door::{Next, Seat};
 use crate::refused::room_for;
 use crate::{Port, Refused};
@@ -40,7 +40,7 @@ const BACK_OFF: u32 = 128;
 /// How a place released the monitor.
 #[derive(Clone, Copy, PartialEq)]
 pub(crate) enum Departure {
-    /// It waits or has signalled, and comes back.
+    /// It waits or has signalled, and returns.
     GoesAway,
     /// It left.
     Leaves,
@@ -122,8 +122,8 @@ impl<P: Port> Parking<P> {
         self.bells.len()
     }
 
-    /// Wakes the place that a step named; if it named none the monitor is free, and an entering thread is woken, if one
-    /// sleeps. `departure` says how the place of that step released the monitor.
+    /// Wakes the place that a step returned. If it returned none the monitor is free, and an entering thread is woken
+    /// if one sleeps. `departure` is the way in which the place of that step released the monitor.
     #[inline]
     pub(crate) fn wake(&self, next: Next, departure: Departure) {
         let Some(place) = next else {
@@ -160,7 +160,7 @@ impl<P: Port> Parking<P> {
     }
 
     /// Wakes the next thread after a step by which `seat` went away, and returns inside once the monitor is owed to it.
-    /// Returns true if a place that left handed it over.
+    /// Returns true if a place that left handed it off.
     pub(crate) fn go_away(&self, seat: &mut Seat, next: Next) -> bool {
         let ends = EndsIfUnwound;
         self.wake(next, Departure::GoesAway);
@@ -175,7 +175,7 @@ impl<P: Port> Parking<P> {
     }
 }
 
-/// Lets others enter first. A place that was handed the monitor by one that left would mostly enter again before that one
+/// Lets others enter first. If place P leaves and hands off the monitor to Q, then Q would mostly enter again before P
 /// does, find its condition false again and wait: each visit would cost a hand-off.
 #[cold]
 pub(crate) fn back_off() {

@@ -5,9 +5,9 @@ use core::sync::atomic::AtomicU32;
 /// of std, with the feature `std`. For another platform, a kernel say, write your own, and make the monitor by
 /// [`Monitor::with_port`](crate::Monitor::with_port).
 ///
-/// A value of the port stands beside each word on which threads sleep: one word for each place, and one for the threads
-/// that wait to enter. It has what the platform needs there: std's has a mutex and a condition variable; one over
-/// futexes needs nothing.
+/// Each word on which threads sleep has a value of the port beside it: one word for each place, and one for the threads
+/// that wait to enter. The value has what the platform needs there: std's has a mutex and a condition variable; one
+/// over futexes needs nothing.
 ///
 /// A port that doesn't wake makes threads sleep for ever. Nothing that a port does lets two places be inside at once.
 /// A port doesn't panic: in [`sleep_while`](Port::sleep_while) of a place that is away, that ends the program.
@@ -41,8 +41,8 @@ pub trait Port: Send + Sync {
     /// thread tries again after 1, 2, 4 .. hints, up to so many. 0 on a single processor.
     const POLLS: u32 = 500;
 
-    /// Blocks the calling thread while `word` has the value `is`. The test and the falling asleep are one step to
-    /// [`wake_one`](Port::wake_one): a thread doesn't sleep through a change of the word that came before a wake-up.
+    /// Blocks the calling thread while `word` has the value `is`. For [`wake_one`](Port::wake_one) the test and the
+    /// falling asleep are one step: a thread doesn't sleep through a change of the word that came before a wake-up.
     /// May return early.
     fn sleep_while(&self, word: &AtomicU32, is: u32);
 

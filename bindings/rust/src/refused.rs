@@ -10,9 +10,9 @@ pub enum Refused {
     NoPlace,
     /// The place is to enter while another place is inside.
     NotFree,
-    /// The place is to enter while it waits.
+    /// The place is to enter while it waits, was notified or has signalled.
     NotOutside,
-    /// The place is to act and isn't inside.
+    /// The place is to act, but isn't inside.
     NotInside,
     /// No condition has this number.
     NoCondition,

@@ -1,4 +1,4 @@
-//! What a book or a monitor allocates it frees, and if an allocation fails it keeps nothing.
+//! A book or a monitor frees all that it allocated. If an allocation fails, it keeps nothing.
 use std::alloc::{GlobalAlloc, Layout, System};
 use std::cell::{Cell, RefCell};
 use std::rc::Rc;
@@ -11,7 +11,7 @@ conditions! { enum Mesa { C } }
 thread_local! {
     // what this thread allocated and hasn't freed: its address and layout
     static TAKEN: RefCell<Option<Vec<(usize, Layout)>>> = const { RefCell::new(None) };
-    // how many allocations of this thread succeed before one fails
+    // the number of allocations of this thread that succeed before an allocation fails
     static BEFORE_FAILURE: Cell<Option<usize>> = const { Cell::new(None) };
 }
 
@@ -26,7 +26,7 @@ fn note(change: impl FnOnce(&mut Vec<(usize, Layout)>)) {
     });
 }
 
-// Counts an allocation down, and returns true if it is the one that fails.
+// Counts an allocation down, and returns true if it is the allocation that fails.
 fn fails() -> bool {
     let before = BEFORE_FAILURE.try_with(Cell::get).unwrap_or(None);
     let _ = BEFORE_FAILURE.try_with(|cell| cell.set(before.and_then(|before| before.checked_sub(1))));
@@ -56,7 +56,7 @@ unsafe impl GlobalAlloc for Noted {
 #[global_allocator]
 static NOTED: Noted = Noted;
 
-// What an act allocated and didn't free.
+// Returns what an act allocated and didn't free.
 fn taken_by(act: impl FnOnce()) -> Vec<(usize, Layout)> {
     TAKEN.with(|taken| *taken.borrow_mut() = Some(Vec::with_capacity(1000)));
     act();
@@ -129,7 +129,7 @@ fn a_monitor_that_is_used_takes_no_more() {
     assert_eq!(taken_by(uses), []);
 }
 
-// Makes a monitor with the allocation after so many refused.
+// Makes a monitor; the allocation after so many fails.
 fn with_failure_after(succeed: usize, places: usize) -> Option<Refused> {
     BEFORE_FAILURE.with(|before| before.set(Some(succeed)));
     let made = Small::new(7, places);
@@ -137,7 +137,7 @@ fn with_failure_after(succeed: usize, places: usize) -> Option<Refused> {
     made.err()
 }
 
-// How many allocations it takes to make a monitor.
+// Returns the number of allocations by which a monitor is made.
 fn requests(places: usize) -> usize {
     BEFORE_FAILURE.with(|before| before.set(Some(usize::MAX)));
     let made = Small::new(7, places);

@@ -1,4 +1,4 @@
-//! What is refused, what a panic leaves behind, and what a check says.
+//! What is refused, the state that a panic leaves, and what a check reports.
 use std::panic::{catch_unwind, AssertUnwindSafe};
 use std::thread;
 use zaulinte::{conditions, Inside, Monitor, NoConditions, Place, Refused};
@@ -108,7 +108,7 @@ fn what_is_shown_names_the_place_and_the_data() {
     assert_eq!(format!("{:?}", places[1].enter().unwrap()), "Inside { place: 1, data: 7 }");
 }
 
-// The file and line where a thread panics.
+// The file and the line where a thread panics.
 fn place_of_panic(act: impl FnOnce()) -> String {
     thread_local!(static PLACE: std::cell::Cell<String> = const { std::cell::Cell::new(String::new()) });
     static HOOK: std::sync::Once = std::sync::Once::new();

@@ -1,5 +1,5 @@
-//! Ports of one's own, with std in the crate or without it: one that spins, one that returns early, one that wakes
-//! nobody, one that panics. `cargo test` and `cargo test --no-default-features` run them.
+//! Ports of a user, with std in the crate or without it. One spins, one returns early, one wakes no thread, and one
+//! panics. `cargo test` and `cargo test --no-default-features` run them.
 use std::sync::atomic::{AtomicU32, Ordering::SeqCst};
 use std::sync::{mpsc, Arc, Condvar, Mutex};
 use std::thread;
@@ -47,7 +47,7 @@ impl Port for Early {
     fn wake_one(&self, _: &AtomicU32) {}
 }
 
-// Sleeps by std, counts the threads that fell asleep, and wakes one if it `wakes`.
+// Sleeps by std, counts the threads that fell asleep, and wakes a thread only if `wakes` is true.
 #[derive(Default)]
 struct Sleeper {
     lock: Mutex<()>,
@@ -118,8 +118,8 @@ fn a_port_that_never_polls_serves() {
     buffer_is_in_order(|| Sleeper { wakes: true, ..Sleeper::default() });
 }
 
-// Runs `act` in a thread until it falls asleep, then `wake`. Returns true if `act` ends within `time`; if not its
-// thread sleeps until the program ends.
+// Runs `act` in a thread until it falls asleep, then `wake`. Returns true if `act` ends within `time`. If it doesn't,
+// its thread sleeps until the program ends.
 fn ends(asleep: &AtomicU32, time: Duration, act: impl FnOnce() + Send + 'static, wake: impl FnOnce()) -> bool {
     let (tells, is_told) = mpsc::channel();
     thread::spawn(move || {
@@ -134,7 +134,7 @@ fn ends(asleep: &AtomicU32, time: Duration, act: impl FnOnce() + Send + 'static,
 }
 
 // The second place waits and the first resumes it, or the second enters and the first leaves. Returns true if the
-// second gets on within `time`, by a port that wakes if it `wakes`.
+// second continues within `time`, by a port that wakes a thread if `wakes` is true.
 fn gets_on(waits: bool, wakes: bool, time: Duration) -> bool {
     let asleep = Arc::new(AtomicU32::new(0));
     let mut places = monitor_of(2, || Sleeper { asleep: asleep.clone(), wakes, ..Sleeper::default() });

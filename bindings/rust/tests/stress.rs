@@ -1,5 +1,5 @@
-//! The stress of `test/stress.c` once more, in Rust: with std by its port, without it by one that spins. It writes what
-//! it logs to the file that ZAULINTE_LOG names, for `test/judge.c`; the number of calls is ZAULINTE_CALLS.
+//! The stress of `test/stress.c` once more, in Rust: with std by its port, without it by a port that spins. It writes
+//! its log to the file that ZAULINTE_LOG names, for `test/judge.c`; the number of calls is ZAULINTE_CALLS.
 use std::fmt::Write;
 use std::thread;
 use zaulinte::{conditions, Checks, Monitor};

@@ -1,7 +1,7 @@
-/* From the loader (multiboot 1: QEMU's -kernel, GRUB) to C on each core. x86-64. The image is flat: its header says at
- * which addresses it lies. */
+/* From the loader (multiboot 1: QEMU's -kernel, GRUB) to C on each core. x86-64. The image is flat: its header has
+ * its addresses. */
         .set MAGIC, 0x1badb002
-        .set FLAGS, 0x00010002          /* the loader tells the size of memory; the addresses stand here */
+        .set FLAGS, 0x00010002          /* the loader passes the size of memory; the addresses are in this header */
         .set CODE32, 0x08
         .set DATA, 0x10
         .set CODE64, 0x18
@@ -52,8 +52,8 @@ to_64_bits:
         .set    SSE, 0x600              /* OSFXSR and OSXMMEXCPT: the archive uses SSE registers */
         .set    FPU, 0x02               /* on */
 #else
-        .set    SSE, 0                  /* an SSE instruction is exception 6 */
-        .set    FPU, 0x04               /* off: one of the floating point unit is exception 7 */
+        .set    SSE, 0                  /* an SSE instruction raises exception 6 */
+        .set    FPU, 0x04               /* off: an instruction of the floating point unit raises exception 7 */
 #endif
         mov     $PAE | SSE, %eax
         mov     %eax, %cr4

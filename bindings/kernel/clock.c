@@ -1,5 +1,5 @@
-/* An alarm clock, after Hoare, on the machine's timer. First a thread ticks, which the handler wakes. Then the handler
- * itself ticks if the monitor is free, and else leaves the tick to the thread. */
+/* An alarm clock, after Hoare, on the machine's timer. First a thread ticks, and the timer's handler wakes it. Then the
+ * handler itself ticks if the monitor is free, and else leaves the tick to the thread. */
 #include "kernel.h"
 
 enum { SLEEPERS = 8, SLEEPS = 25, HAND = SLEEPERS, HANDLER, ASKER, PLACES, WAKE_UP = 0 };
@@ -7,10 +7,10 @@ static struct {
     zaulinte_monitor m;
     uint64_t now;
 } alarms;
-static zaulinte_bell owed; /* how many ticks the clock is behind the timer */
+static zaulinte_bell owed; /* the number of the timer's ticks that the clock hasn't made yet */
 static _Atomic bool is_over;
 static _Atomic uint64_t late, sleeps;
-static uint64_t interrupts, shut; /* of the handler that ticks itself, and how often the monitor wasn't free */
+static uint64_t interrupts, shut; /* calls of the handler that ticks itself; how often the monitor wasn't free */
 
 static uint64_t wake_me(uint32_t place, uint64_t in) { /* returns how late it is by the clock */
     CHECK(zaulinte_enter(&alarms.m, place));
@@ -20,7 +20,7 @@ static uint64_t wake_me(uint32_t place, uint64_t in) { /* returns how late it is
     CHECK(zaulinte_signal_leave(&alarms.m, place, WAKE_UP, NULL));
     return now - setting;
 }
-/* By the place inside: so no tick is lost or made twice. */
+/* Called by the place inside: so no tick is lost or made twice. */
 static void tick_and_leave(uint32_t place) {
     if (atomic_load(&owed.word) > 0) {
         atomic_fetch_sub(&owed.word, 1);
@@ -36,7 +36,7 @@ static void *tick_what_is_owed(void *unused) {
     }
     return unused;
 }
-static void wake_hand(void) { /* the handler changes a word, and wakes */
+static void wake_hand(void) { /* the handler changes a word, and wakes the thread */
     atomic_fetch_add(&owed.word, 1);
     wake_one(&owed);
 }

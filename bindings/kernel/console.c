@@ -1,4 +1,4 @@
-/* Lines for people, on the serial port, and a log for programs. */
+/* Lines for people, on the serial port; and a log for programs. */
 #include "kernel.h"
 
 uint16_t printf_to = SERIAL;
@@ -40,7 +40,7 @@ static void put_signed(line *l, int64_t n) {
     if (n < 0) put(l, '-');
     put_digits(l, n < 0 ? -(uint64_t)n : (uint64_t)n, 10);
 }
-/* %c %d %s %u %x, and %ld %lu %lx. Returns how many characters were written, without a zero at the end. */
+/* %c %d %s %u %x, and %ld %lu %lx. Returns the number of characters written; there is no zero at the end. */
 size_t format(char *to, size_t room, const char *form, va_list with) {
     line l = {to, room, 0};
     for (; *form; form++) {

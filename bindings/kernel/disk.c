@@ -1,5 +1,5 @@
 /* The first ATA drive, by the processor (PIO), one sector a command; the drive interrupts when it has the sector. There
- * is no lock: the disk head sees to it that one thread at a time is here. */
+ * is no lock: the disk head lets in one thread at a time. */
 #include "kernel.h"
 
 enum { DATA = 0x1f0, COUNT = 0x1f2, LOW = 0x1f3, MIDDLE = 0x1f4, HIGH = 0x1f5, DRIVE = 0x1f6, COMMAND = 0x1f7 };
@@ -19,13 +19,13 @@ disk_size start_disk(void) {
     out8(COMMAND, IDENTIFY);
     if (in8(COMMAND) == 0) fail("no disk");
     while (in8(COMMAND) & BUSY) {}
-    if (!(in8(COMMAND) & READY)) fail("the disk doesn't say what it is");
+    if (!(in8(COMMAND) & READY)) fail("the disk doesn't identify itself");
     take_sector(words);
     out8(CONTROL, 0);
     return (disk_size){words[1], words[3], words[6]};
 }
-/* The handler reads the drive's status, which ends its interrupt, and wakes the thread. It enters no monitor: by the
- * disk head at most one thread waits for the drive. */
+/* The handler reads the drive's status, which ends the interrupt, and wakes the thread. It enters no monitor: because
+ * of the disk head at most one thread waits for the drive. */
 void disk_interrupted(void) {
     status = in8(COMMAND);
     atomic_store(&came.word, 1);

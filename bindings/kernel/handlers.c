@@ -1,6 +1,6 @@
 /* Calls from an interrupt handler. At each tick the timer's handler tries to enter a monitor, in which threads wait on
  * one of Hoare's conditions and on a Mesa condition. Inside it makes each call that never blocks, and compares each
- * answer with an account of the waiters. It also makes calls that are refused: by the place of a thread, for example. */
+ * result with an account of the waiters. It also makes calls that are refused: by a thread's place, for example. */
 #include "kernel.h"
 
 enum { WAITERS = 6, HANDLER = WAITERS, ASKER, SWEEPER, PLACES, HOARE = 0, MESA = 1, EACH = 50, MOST_SECONDS = 60 };
@@ -11,8 +11,8 @@ typedef struct {
 static struct {
     zaulinte_monitor m;
     waiter waiter[2][WAITERS]; /* by condition and place */
-    uint64_t waits;            /* how many waits began */
-    uint32_t gone;             /* how many of the waiters have ended */
+    uint64_t waits;            /* the number of waits that began */
+    uint32_t gone;             /* the number of waiters that have ended */
     bool is_over;
 } hall;
 enum { LEAVES, NOTIFIES, BROADCASTS, SIGNALS, ACTS };
@@ -39,7 +39,7 @@ static void strike_first(uint32_t condition) {
     if (first) first->waits = false;
 }
 static void must_be(uint64_t is, uint64_t wanted, const char *what) {
-    if (is != wanted) fail("%s: %lu, where %lu was due", what, is, wanted);
+    if (is != wanted) fail("%s: %lu instead of %lu", what, is, wanted);
 }
 
 /* the calls of a place inside, by the handler and by the thread that sweeps */
@@ -70,7 +70,8 @@ static void signal_and_leave(uint32_t place) {
     CHECK(zaulinte_signal_leave(&hall.m, place, HOARE, &resumed)); /* `resumed` is the handler's own word */
     must_be(resumed, due, "signal_leave");
 }
-/* Refused, and nothing happens: acts by the places of threads, the interrupted one's too, and others. */
+/* Makes calls that are refused, and change nothing: acts by the places of threads, the interrupted thread's too, and
+ * others. */
 static void misuse(void) {
     for (uint32_t k = 0; k < PLACES; k++) {
         uint64_t code = k == HANDLER ? ZAULINTE_NOT_OUTSIDE : zaulinte_leave(&hall.m, k);
@@ -137,7 +138,7 @@ static bool is_enough(void) {
 static void wait_until_enough(void) {
     int64_t until = nanoseconds() + MOST_SECONDS * 1000000000ll;
     while (!is_enough()) {
-        if (nanoseconds() > until) fail("the handler came to no end");
+        if (nanoseconds() > until) fail("the handler didn't end in time");
         yield();
     }
 }
@@ -162,7 +163,7 @@ void run_handlers(void) {
     join_threads(by, WAITERS);
     join_thread(asker);
     CHECK(zaulinte_free(&hall.m));
-    say("in the timer's handler: %u visits, each answer right; %u times the monitor wasn't free;\n", visits, shut);
+    say("in the timer's handler: %u visits, each result right; %u times the monitor wasn't free;\n", visits, shut);
     say("  beside waiters leave %u, notify %u, broadcast %u, signal_leave %u\n", done[LEAVES], done[NOTIFIES],
         done[BROADCASTS], done[SIGNALS]);
 }

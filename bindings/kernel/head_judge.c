@@ -1,7 +1,7 @@
 /* Judges what the disk head did by another account of a sweep. The head goes round a circle, up on one half of it and
- * down on the other, and each cylinder has a stop on both. A request waits at the first of its two stops that lies
- * ahead when it asks; the stop where the head is lies ahead by the rule of 1974 alone. The next request is the nearest
- * ahead, of equal ones the one that asked first. */
+ * down on the other, and each cylinder has a stop on both. A request waits at the first of its two stops that is
+ * ahead when it asks; only by the rule of 1974 the stop where the head is counts as ahead. The next request is the
+ * nearest ahead, of equally near ones the request that asked first. */
 #include "head.h"
 
 typedef struct {
@@ -12,7 +12,7 @@ static struct {
     const head_rule *rule;
     asked by[WORKERS]; /* in the order in which they asked */
     uint32_t many, has, at, sweep, last, asks, grants;
-    uint32_t stay; /* how many of those that wait are due at the cylinder under the head, by the log */
+    uint32_t stay; /* by the log, the number of waiting requests that are due at the cylinder under the head */
     bool handed; /* the drive came back while others waited */
 } trial;
 

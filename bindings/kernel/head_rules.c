@@ -1,5 +1,5 @@
 /* The rules of the disk head. The elevator is the proved steps of zaulinte_head.h. The other two are here to be
- * compared with it, and NOT PROVED: each changes one answer of those steps. */
+ * compared with it, and NOT PROVED: each changes one decision of those steps. */
 #include "head.h"
 
 /* By the rule of 1974 a request for the cylinder under the head waits for the present sweep, not for the other one. */

@@ -1,5 +1,6 @@
-/* The disk at work. Jobs come through a bounded buffer, and the disk head says which thread has the drive: by the
- * elevator, and first come, first served. Then a stream of requests for one cylinder, by this rule and that of 1974. */
+/* The disk at work. Jobs come through a bounded buffer, and the disk head decides which thread has the drive: by
+ * the elevator, and first come, first served. Then a stream of requests for one cylinder, by this rule and that of
+ * 1974. */
 #include "head.h"
 
 enum { ROOM = 4, ON_CYLINDER = 8, WORDS = SECTOR / 8 };
@@ -29,7 +30,7 @@ static uint32_t remove(uint32_t place) {
     return x;
 }
 
-/* what make_disk wrote */
+/* the data that make_disk wrote */
 static uint64_t mixed(uint64_t n) {
     n = (n + 0x9e3779b97f4a7c15) * 0xbf58476d1ce4e5b9;
     return (n ^ n >> 29) * 0x94d049bb133111eb;
@@ -95,7 +96,7 @@ static uint64_t run_jobs(const head_rule *rule) {
     return travelled(TAKES);
 }
 
-/* All but one ask for one cylinder again and again. */
+/* All threads but one ask for one cylinder again and again. */
 enum { HOT = 200, FAR = 390, HOT_EACH = 30, FAR_EACH = 5 };
 static void *ask_again(void *with) {
     uint32_t me = (uint32_t)(uintptr_t)with;

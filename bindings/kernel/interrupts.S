@@ -2,7 +2,7 @@
  *
  * An interrupt comes on a stack of its core. Its frame is copied to the stack of the interrupted thread, so the thread
  * can be switched away from in the handler, and returns by iretq. With PLAIN, for an archive that isn't made for a
- * kernel, the frame lies below the red zone, and the SSE registers are saved. */
+ * kernel, the frame is put below the red zone, and the SSE registers are saved. */
         .text
         .global vectors
         .align 16
@@ -56,7 +56,7 @@ interrupted:
         iretq
 
 /* switch_stacks(void **from, void *to): puts the registers that a call keeps on the stack, stores the stack at `from`,
- * and goes on with the stack `to`. */
+ * and continues with the stack `to`. */
         .global switch_stacks, thread_begins
 switch_stacks:
         .irp    register, rbx, rbp, r12, r13, r14, r15

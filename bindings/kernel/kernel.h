@@ -1,4 +1,4 @@
-/* What the parts of the kernel know of each other. */
+/* What the parts of the kernel use of each other. */
 #ifndef KERNEL_H
 #define KERNEL_H
 #include "zaulinte_monitor.h"
@@ -49,8 +49,8 @@ static inline uint64_t interrupts_off(void) {
 static inline void interrupts_as(uint64_t flags) {
     if (flags & 0x200) __asm__ volatile("sti" ::: "memory");
 }
-/* In a loop that polls a word. Under QEMU without KVM `pause` leaves the compiled code and takes a lock, which makes a
- * buffer's items ten times as dear: so -DPAUSES is for a machine. */
+/* For a loop that polls a word. Under QEMU without KVM `pause` leaves the compiled code and takes a lock, by which an
+ * item of a buffer takes ten times as long: so -DPAUSES is for a machine. */
 static inline void relax(void) {
 #ifdef PAUSES
     __builtin_ia32_pause();
@@ -76,7 +76,7 @@ static inline void unlock(spin_lock *l, uint64_t flags) {
 }
 
 /* machine.c: cores and time */
-void call_core(uint32_t number); /* interrupts another core, so that it looks for a thread */
+void call_core(uint32_t number); /* interrupts another core, so that it takes a ready thread */
 int64_t nanoseconds(void);
 void end_slice_interrupt(void);
 void end_line_interrupt(uint64_t vector);
@@ -84,8 +84,8 @@ _Noreturn void stop(uint32_t status); /* ends QEMU, whose status is then 2 * sta
 
 /* tables.c: what the processor asks of a kernel, and the interrupts */
 extern _Atomic uint64_t ticks, disk_interrupts;
-/* Has the timer's handler, on the first core, call this at each tick, or nothing by a null pointer. On return no
- * earlier one is running. */
+/* Makes the timer's handler, on the first core, call this function at each tick; with a null pointer it calls none. On
+ * return no function that was set earlier is running. */
 void tick_by(void (*handler)(void));
 void make_gates(void);
 void load_tables(uint32_t number);
@@ -102,19 +102,19 @@ typedef struct thread {
 } thread;
 thread *start_thread(void *(*body)(void *), void *with); /* by one thread at a time */
 void join_thread(thread *t);
-/* The same for so many at `by`: thread k is started with k. */
+/* Starts so many threads, and puts them into `by`: thread k is started with k. */
 void start_threads(thread **by, uint32_t many, void *(*body)(void *));
 void join_threads(thread **by, uint32_t many);
 void yield(void);
 void preempt(void); /* the last act of the handler at the end of a slice */
 void sleep_while(zaulinte_bell *b, uint32_t is);
-void wake_one(zaulinte_bell *b); /* from a handler too: it waits for no thread */
+void wake_one(zaulinte_bell *b); /* a handler may call it too: it waits for no thread */
 uintptr_t caller(void); /* the calling thread, or the handler on this core */
 _Noreturn void run_idle(thread *mine);
 
 /* console.c */
 enum { SERIAL = 0x3f8, LOG = 0xe9 };
-extern uint16_t printf_to; /* SERIAL or LOG: where the printf of the programs writes */
+extern uint16_t printf_to; /* SERIAL or LOG: the port to which the printf of the programs writes */
 void put_text(uint16_t port, const char *text, size_t bytes);
 int print(uint16_t port, const char *form, va_list with);
 size_t format(char *to, size_t room, const char *form, va_list with);
@@ -127,7 +127,7 @@ static inline void check(uint64_t code, const char *call) {
     if (code) fail("%s: %s", call, zaulinte_text(code));
 }
 
-/* disk.c: the first ATA drive. For one thread at a time: the disk head sees to it. */
+/* disk.c: the first ATA drive. For one thread at a time, as the disk head ensures. */
 enum { SECTOR = 512 };
 typedef struct disk_size {
     uint32_t cylinders, heads, sectors;

@@ -18,7 +18,7 @@ void wake_one(zaulinte_bell *b);
 #define ZAULINTE_POLLS (cores_up > 1 ? 500 : 0)
 #define port_thread() caller()
 #ifndef PAUSES
-#define port_relax() __asm__ volatile("" ::: "memory") /* kernel.h says why */
+#define port_relax() __asm__ volatile("" ::: "memory") /* kernel.h has the reason */
 #endif
 static inline void port_make(zaulinte_bell *b) { (void)b; } /* all zero is right */
 static inline void port_free(zaulinte_bell *b) { (void)b; }

@@ -1,4 +1,4 @@
-/* The machine: cores and time of a PC. The timer (8254) and the disk interrupt the first core through the 8259s; each
+/* The machine: cores and time of a PC. The timer (8254) and the disk interrupt the first core through the 8259s. Each
  * core's own timer, in its local APIC, ends the slices. */
 #include "kernel.h"
 
@@ -51,7 +51,7 @@ static void wait_10_ms(void) {
 static void wait_100_ms(void) {
     for (int i = 0; i < 10; i++) wait_10_ms();
 }
-/* Takes the shortest of five: QEMU's host may stop a core within a measure. */
+/* Takes the shortest of five measures: QEMU's host may stop a core during a measure. */
 static void measure_time(void) {
     *apic(SPURIOUS_AT) = 0x100 | SPURIOUS;
     *apic(TIMER_BY) = 3;
@@ -94,7 +94,7 @@ static void copy_trampoline(void) {
     __asm__ volatile("" : "+r"(to)); /* an address that the compiler can't object to */
     for (char *from = trampoline; from < trampoline_end; from++) *to++ = *from;
 }
-/* Starts the other cores, all at once, until none has come for a tenth of a second. */
+/* Starts the other cores, all at once, and waits until no further core has come up for a tenth of a second. */
 static void start_others(void) {
     copy_trampoline();
     send(0, 0xc4500);

@@ -1,5 +1,5 @@
-/* Makes the disk's image: make_disk FILE. 400 cylinders of 16 heads and 63 sectors; the first 8 sectors of each cylinder
- * have their own data, and the rest is a hole. */
+/* Makes the disk's image: make_disk FILE. 400 cylinders of 16 heads and 63 sectors; the first 8 sectors of each
+ * cylinder have their own data, and the rest is a hole. */
 #include <stdint.h>
 #include <stdio.h>
 

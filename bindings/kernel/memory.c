@@ -1,4 +1,4 @@
-/* The archive's memory: ../c/zaulinte_heap.c under a lock. A handler that makes or frees a monitor is stopped. */
+/* The archive's memory: ../c/zaulinte_heap.c under a lock. Fails if a handler makes or frees a monitor. */
 #include "kernel.h"
 
 struct tried {

@@ -1,5 +1,5 @@
 /* SSE registers. Threads keep values in them, while other threads and the timer's handler make calls of a monitor, and
- * so steps of the archive, which uses such registers. All threads are preempted. It fails if a value is lost. */
+ * so steps of the archive, which uses such registers. All threads are preempted. The test fails if a value is lost. */
 #include "kernel.h"
 
 enum { KEEPERS = 4, VISITORS = 4, HANDLER = VISITORS, PLACES, ROUNDS = 2000, MILLISECONDS = 300, TURN = 0 };
@@ -27,7 +27,7 @@ static void *make_calls(void *with) {
     }
     return NULL;
 }
-static void visit(void) { /* in the handler, which has interrupted any thread */
+static void visit(void) { /* in the handler, which may have interrupted any of the threads */
     if (zaulinte_try_enter(&m, HANDLER)) return;
     CHECK(zaulinte_signal_leave(&m, HANDLER, TURN, NULL));
 }

@@ -1,4 +1,4 @@
-/* The tables that an x86-64 processor asks for, and what each interrupt does. */
+/* The tables that an x86-64 processor needs, and what each interrupt does. */
 #include "kernel.h"
 
 struct frame { /* as interrupts.S puts it on the stack */
@@ -35,7 +35,7 @@ static struct __attribute__((packed)) {
 } tasks[CORES];
 static _Alignas(16) unsigned char interrupt_stacks[CORES][1024];
 
-/* Each interrupt comes with interrupts off, on the core's interrupt stack. */
+/* Each interrupt arrives with interrupts off, on the core's interrupt stack. */
 void make_gates(void) {
     for (int v = 0; v < 256; v++) {
         uint64_t at = (uint64_t)(uintptr_t)vectors + 16 * (uint64_t)v;

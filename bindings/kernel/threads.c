@@ -1,5 +1,5 @@
 /* Threads on all cores: one queue of the ready ones, and a queue in each bell. One lock, with interrupts off, which is
- * held over a switch: the thread that is switched to lets it go. */
+ * held over a switch: the thread that is switched to releases it. */
 #include "kernel.h"
 
 void switch_stacks(void **from, void *to);
@@ -23,7 +23,7 @@ static thread *take_first(struct thread_queue *q) {
     return t;
 }
 
-/* The functions from here to `make_ready` are called with the lock. */
+/* The functions from here to `make_ready` are called with the lock held. */
 static void switch_to(thread *to) {
     core *mine = this_core();
     thread *from = mine->thread;
@@ -32,7 +32,7 @@ static void switch_to(thread *to) {
     mine->switched++;
     switch_stacks(&from->sp, to->sp);
 }
-/* From a thread that is in a queue, or has ended. */
+/* Switches away from a thread that is in a queue, or has ended. */
 static void switch_away(void) {
     thread *next = take_first(&ready);
     switch_to(next ? next : idle_of[this_core()->number]);
@@ -68,7 +68,7 @@ void preempt(void) {
 /* The port's functions. A handler is a caller of its own, so it can't act by the place of the thread that it
  * interrupted. */
 uintptr_t caller(void) { return in_handler() ? (uintptr_t)this_core() : (uintptr_t)this_thread(); }
-/* The test of the word and the falling asleep are one step, by the lock. */
+/* Because of the lock the test of the word and the falling asleep are one step. */
 void sleep_while(zaulinte_bell *b, uint32_t is) {
     if (in_handler()) fail("an interrupt handler would sleep");
     uint64_t flags = lock(&all);
@@ -104,7 +104,7 @@ thread *start_thread(void *(*body)(void *), void *with) {
     unlock(&all, flags);
     return t;
 }
-_Noreturn void run_thread(void) { /* with the lock, interrupts off */
+_Noreturn void run_thread(void) { /* with the lock held, interrupts off */
     unlock(&all, 0x200);
     thread *mine = this_thread();
     mine->body(mine->with);

@@ -1,5 +1,5 @@
-/* No C library at all: x86-64 Linux, with an entry and an exit of its own. Fills a book of 64 places,
- * three times, so that what it freed is used again. The status is 0, or 1 if a call was refused. */
+/* No C library at all: x86-64 Linux, with an entry and an exit of its own. Fills a book of 64 places
+ * three times, so that freed memory is used again. The status is 0, or 1 if a call was refused. */
 #include "zaulinte_book.h"
 #include <stddef.h>
 

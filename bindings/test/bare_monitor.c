@@ -1,5 +1,5 @@
 /* A monitor without a C library: x86-64 Linux, with an entry and an exit of its own, bare_port.h and zaulinte_heap.c.
- * Makes a monitor of 64 places three times, so that what it freed is used again; each place enters, calls and leaves.
+ * Makes a monitor of 64 places three times, so that freed memory is used again; each place enters, calls and leaves.
  * The status is 0, or 1 if a call was refused. */
 #include "zaulinte_monitor.h"
 #include <stddef.h>

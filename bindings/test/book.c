@@ -1,4 +1,4 @@
-/* Every answer of the book's calls: by the README's script, by refusals, and on a book that is all zero, alive or
+/* Tests every result of the book's calls: by the README's script, by refusals, and on a book that is all zero, made or
  * freed. */
 #include "zaulinte_book.h"
 #include <inttypes.h>

@@ -1,5 +1,5 @@
-/* What a build with ZAULINTE_CHECKS finds: checks FAULT, for a store of items that a consumer waits for. Each fault but
- * `none` ends by an abort, after a line that names the assertion, the place and the condition. */
+/* What a build with ZAULINTE_CHECKS finds: `checks FAULT`, with a store of items for which a consumer waits. Each fault
+ * but `none` ends by an abort, after a line that names the assertion, the place and the condition. */
 #include "zaulinte_monitor.h"
 #include <pthread.h>
 #include <sched.h>

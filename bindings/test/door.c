@@ -1,5 +1,6 @@
-/* Every code of every call of the door, beside what was worked out by hand: refusals in their order, hand-overs, each
- * split of the conditions into Hoare's and Mesa conditions, and memory that is refused at each request in turn. */
+/* Compares every code of every call of the door with what was worked out by hand. Tests refusals in their order, hand-offs,
+ * each split of the conditions into Hoare's and Mesa conditions, and an allocation that fails, at each request in turn.
+ * */
 #include "zaulinte_door.h"
 #include <inttypes.h>
 #include <stdbool.h>
@@ -7,7 +8,7 @@
 #include <stdlib.h>
 #include <string.h>
 
-/* The archive's memory, by malloc: garbage at first, and refused from request `first` to request `last`. */
+/* The archive's memory, by malloc: garbage at first. The requests from `first` to `last` fail. */
 struct tried {
     bool is;
     void *at;
@@ -33,7 +34,7 @@ static void refuse(unsigned first, unsigned last) { requests = 0, first_refused 
 static void refuse_all(void) { refuse(1, ~0u); }
 static void refuse_none(void) { refuse(1, 0); }
 
-/* the first wrong answer ends the test */
+/* the first wrong result ends the test */
 #define IS(call, wanted) is(__LINE__, #call, call, wanted)
 static void is(int line, const char *call, uint64_t answer, uint64_t wanted) {
     if (answer == wanted) return;
@@ -101,7 +102,7 @@ static void comes_to_wait(int k, uint64_t c, uint64_t p) {
     IS(waits(k, c, p), 64);
     IS(state(k), 2);
 }
-/* the place is back inside, and its leave returns this */
+/* the place returns, and its leave returns this */
 static void returns_and_leaves(int k, uint64_t next) {
     IS(state(k), 2);
     IS(returns(k), 64);
@@ -188,7 +189,7 @@ static void handles(void) {
     IS(pieces, 0);
 }
 
-/* what a place is refused that isn't inside: 104 before 105 and 106; conditions: 0 of Hoare's, 1 Mesa */
+/* refusals of a place that isn't inside: 104 before 105 and 106; condition 0 is one of Hoare's, 1 a Mesa condition */
 static void not_inside(int k) {
     uint64_t kept = 77, before = state(k);
     static const uint64_t any[] = {0, 1, 2, UINT64_MAX};
@@ -240,7 +241,7 @@ static void inside(int k) {
 static void refusals(void) {
     uint64_t value = 77;
     opens(3, 2, 1, 40);
-    refuse_all(); /* no step takes memory */
+    refuse_all(); /* no step allocates */
     for (int k = 0; k < 3; k++) {
         not_inside(k);
         IS(returns(k), 113);
@@ -290,7 +291,7 @@ static void refusals(void) {
     refuse_none();
 }
 
-/* a signaller before an entering place; a signal that finds nobody; a signal as the last act */
+/* a signaller before an entering place; a signal without a waiter; a signal as the last act */
 static void hands_over(void) {
     uint64_t found = 77;
     opens(3, 1, 0, 0);
@@ -317,7 +318,7 @@ static void hands_over(void) {
     returns_and_leaves(1, 64);
     IS(enters(2), 64);
     IS(leaves(2), 64);
-    /* the same by signal_leave: nobody is owed the monitor after it */
+    /* the same by signal_leave: no place is owed the monitor after it */
     comes_to_wait(0, 0, 1);
     IS(enters(1), 64);
     IS(exits(1, 0), 0);
@@ -327,7 +328,7 @@ static void hands_over(void) {
     IS(enters(1), 64);
     IS(exits(1, 0), 64);
     IS(state(1), 0);
-    /* a signal_leave that finds nobody goes to the signaller; so does a wait */
+    /* a signal_leave without a waiter hands off to the signaller; so does a wait */
     comes_to_wait(0, 0, 1);
     IS(enters(1), 64);
     IS(signals(1, 0), 0);
@@ -366,7 +367,7 @@ static void two_signallers(void) {
     IS(leaves(3), 64);
     closes(4, 0);
 }
-/* signallers, then notified places, then an entering one; a place that is notified doesn't wait any more */
+/* signallers, then notified places, then an entering place; a notified place doesn't wait any more */
 static void notified_after_signallers(void) {
     opens(5, 2, 1, 0);
     comes_to_wait(0, 1, 0);
@@ -497,8 +498,8 @@ static void splits(void) {
     }
 }
 
-/* A door isn't closed while a place is out, wherever that is, or wasn't collected. A place that was given back is given
- * out again. */
+/* A door isn't closed while a place is out, in any state, or wasn't collected. A place that was given back is given out
+ * again. */
 static void close_and_again(void) {
     zaulinte_door_place again = {0, 0, 0}, more = {0, 0, 0};
     uint64_t value = 77;
@@ -542,7 +543,7 @@ static void close_and_again(void) {
     answers_of_no_door(&door);
     answers_of_no_place(&again);
     IS(pieces, 0);
-    /* a door whose close was refused gives places out still */
+    /* a door whose close was refused still gives places out */
     IS(zaulinte_door_make(&door, 2, 1, 0, 9), 0);
     gives_first(1, 2);
     IS(shuts(&door, &value), 112);
@@ -566,7 +567,7 @@ static void all_given_out_again(void) {
     zaulinte_door_place more = {0, 0, 0};
     opens(64, 8, 0, 0);
     numbers(64);
-    for (int k = 1; k < 64; k += 2) IS(gives_back(k), 0); /* those of odd number */
+    for (int k = 1; k < 64; k += 2) IS(gives_back(k), 0); /* the places of odd number */
     gives_out(1, 64);
     IS(gives_back(0), 0);
     for (int k = 3; k < 64; k += 2) gives_out(k, 64);
@@ -582,8 +583,8 @@ static void all_given_out_again(void) {
     closes(64, 0);
 }
 
-/* How many requests the call makes, if all are granted. Each of them is refused in turn, alone and with all after it:
- * 111, and as many pieces as before. */
+/* Returns the number of requests that the call makes, if none fails. Each of them fails in turn, alone and with all
+ * after it: the call returns 111, and there are as many pieces as before. */
 static void make_without_memory(uint64_t places) {
     refuse_none();
     IS(zaulinte_door_make(&door, places, 8, 4, 5), 0);
@@ -600,7 +601,7 @@ static void make_without_memory(uint64_t places) {
         }
     }
 }
-/* after a refusal the place went back: any number that isn't out may come next */
+/* after a refusal the place went back: any number that isn't out may be next */
 static void given_out_without_memory(int i, int places) {
     unsigned before = pieces, all = 0;
     for (unsigned k = 1; !all; k++) {
@@ -610,7 +611,7 @@ static void given_out_without_memory(int i, int places) {
             unsigned asked = requests;
             refuse_none();
             if (code < 64 && asked < k) {
-                all = asked; /* none was refused */
+                all = asked; /* none failed */
                 is_out(i, places, code);
                 break;
             }

@@ -1,4 +1,4 @@
-/* The door's calls once more, by hand and not proved, in the place of libdoor_c.a: to see that door.c finds each of
+/* The door's calls once more, by hand and not proved, in the place of libdoor_c.a: to test that door.c finds each of
  * the faults that -DWRONG=1 to -DWRONG=24 put in, one at a time. Each call takes one lock. */
 #include "zaulinte_door.h"
 #include <pthread.h>
@@ -23,8 +23,8 @@ typedef struct { waiter at[64]; unsigned many; } list;
 typedef struct {
     uint64_t places, conditions, mesa, value;
     uint64_t has; /* the place that is inside, or to which the monitor is owed, or FREE */
-    uint64_t is_owed, passed_over; /* the latter by fault 22: 1 + the place that a newcomer entered before, or 0 */
-    list kept, back, waiting[8], signallers, notified; /* `back`: given back, since `kept` was filled last */
+    uint64_t is_owed, passed_over; /* the latter by fault 22: 1 + the place before which another entered */
+    list kept, back, waiting[8], signallers, notified; /* `back`: given back since `kept` was filled last */
 } hand;
 typedef struct { hand *h; uint64_t number, state; } seat;
 

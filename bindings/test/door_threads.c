@@ -1,12 +1,12 @@
 /* Threads over one door. Two only poll, with `try_enter` and `try_return`. Two and eight share a bounded buffer, by
  * Hoare's conditions and by Mesa conditions, and park: by futexes on Linux, else or with -DZAULINTE_CONDVAR by
  * condition variables. Three share two places, which they take and give back. Each thread takes its own place, and
- * the number that it is given is the index of its bell. The sums are checked.
+ * the number of that place is the index of its bell. The sums are checked.
  *
  * The archive isn't instrumented: ThreadSanitizer doesn't see that it orders the visits. Under ThreadSanitizer the
  * word `owner` has that order: a thread stores it before it releases the monitor, and the next thread inside
  * exchanges it. So ThreadSanitizer checks the parking, and `owner` that no two threads are inside at once. The
- * archive's own order is tested by the other runs alone.
+ * archive's own order is tested only by the other runs.
  *
  *   door_threads [ROUNDS]    100,000; half as many for the buffers */
 #define _GNU_SOURCE
@@ -207,7 +207,7 @@ static void counts(zaulinte_door_place *p) {
     CHECK(zaulinte_door_set(p, (uint64_t)++visits) == 0);
 }
 
-/* two that poll: one fills `ready` and signals, the other waits if it is empty */
+/* two threads that poll: one fills `ready` and signals, the other waits if it is empty */
 static long ready;
 static void spin_in(zaulinte_door_place *p) {
     while (zaulinte_door_try_enter(p) != ZAULINTE_DOOR_ENTERED) sched_yield();
@@ -272,7 +272,7 @@ static struct {
     bool mesa;
 } buffer;
 static long held(void) { return buffer.put - buffer.taken; }
-/* waits until there is room, or an item; then does its part, and tells the other side */
+/* waits until there is room, or an item; then does its part, and signals or notifies the other side */
 static void wait_for(seat *s, long bad, uint64_t side) {
     if (buffer.mesa) {
         while (held() == bad) wait_on(s, 2 + side);

@@ -1,5 +1,5 @@
-/* What a visit of one thread costs: `try_enter` and `leave`, beside a compare-and-swap and an exchange of one word,
- * and beside a mutex. Nanoseconds of the thread's CPU time, the least of 15 batches. No test: it only prints.
+/* Measures a visit of one thread, `try_enter` and `leave`, beside a compare-and-swap and an exchange of one word, and
+ * beside a mutex. Prints nanoseconds of the thread's CPU time, the least of 15 batches. No test: it only prints.
  *
  *   gcc -std=c11 -O2 -pthread -Ibindings/c bindings/test/door_visit.c bindings/c/zaulinte_malloc.c \
  *       bindings/lib/x86_64-linux/libzaulinte.a -o visit && ./visit */

@@ -1,9 +1,9 @@
-/* Every step of the disk head beside another account of a sweep: refusals, which change nothing; each state of all
- * small disks with each number; and all short runs of requests and releases.
+/* Compares every step of the disk head with another account of a sweep: refusals, which change nothing; each state of
+ * all small disks with each number; and all short runs of requests and releases.
  *
  * The other account: the head goes round a circle of stops, up on one half and down on the other, and each cylinder has
- * a stop on both. A request waits at the first of its two stops that lies ahead when it asks, and never at the stop
- * where the head is. The next request is the nearest ahead, of equal ones the one that asked first. */
+ * a stop on both. A request waits at the first of its two stops that is ahead when it asks, and never at the stop
+ * where the head is. The next request is the nearest ahead, of equally near ones the request that asked first. */
 #include "zaulinte_head.h"
 #include <inttypes.h>
 #include <stdbool.h>
@@ -11,7 +11,7 @@
 #include <stdlib.h>
 #include <string.h>
 
-/* the first wrong answer ends the test */
+/* the first wrong result ends the test */
 #define IS(call, wanted) is(__LINE__, #call, call, wanted)
 static void is(int line, const char *call, uint64_t answer, uint64_t wanted) {
     if (answer == wanted) return;
@@ -59,7 +59,7 @@ static void head_is(int line, uint64_t at, uint64_t last, uint64_t sweep, uint64
 }
 #define HEAD_IS(at, last, sweep, out) head_is(__LINE__, at, last, sweep, out)
 
-/* Brings the head there, by its calls alone. */
+/* Brings the head into a state, only by its calls. */
 static void bring(uint64_t at, uint64_t last, uint64_t sweep, uint64_t out) {
     IS(zaulinte_head_make(&head, last), 0);
     HEAD_IS(0, last, 0, 0);
@@ -73,7 +73,7 @@ static void bring(uint64_t at, uint64_t last, uint64_t sweep, uint64_t out) {
     HEAD_IS(at, last, sweep, out);
 }
 
-/* A state of the head, which all calls and numbers are tried in. */
+/* A state of the head. All calls and numbers are tried in it. */
 typedef struct {
     uint64_t at, last, sweep, out;
 } head_state;
@@ -137,7 +137,7 @@ static void all_states(void) {
     states(65534, some, sizeof some / sizeof *some - 1);
 }
 
-/* Runs: a letter below `last + 1` is a request for that cylinder, and the next one is a release. The monitor is by
+/* Runs: a letter below `last + 1` is a request for that cylinder, and the next letter is a release. The monitor is by
  * hand: it resumes the waiter of least priority on a condition, of equal ones the longest waiting. */
 enum { LONGEST = 8 };
 typedef struct {

@@ -1,4 +1,4 @@
-/* The disk head's steps once more, by hand and not proved, in the place of libhead_c.a: to see that head.c finds each
+/* The disk head's steps once more, by hand and not proved, in the place of libhead_c.a: to test that head.c finds each
  * of the faults below. -DWRONG=k has the k-th. */
 #include "zaulinte_head.h"
 #ifndef WRONG

@@ -1,12 +1,19 @@
-/* Reads the log of a stress, which the thread inside wrote line by line, and reports whether it is a legal history.
- * It uses nothing of the bindings: what is legal is written here once more, over plain lists.
+/* Reads the log of a stress, which the thread inside wrote line by line, and reports if it is a legal history. It uses
+ * nothing of the bindings: what is legal is written here once more, over plain lists.
  *
- * The first line is `sizes PLACES CONDITIONS MESA`, the last one `end`. Between them, with the data D of the
- * monitor:
- *   admit K D          wait K C P D      signal K C D (somebody waited)   pass K C D (likewise)   leave K D
- *   notify K C D       broadcast K C N D (N waited)     empty K C D (an act that found nobody)
- *   resume K C D (back from a wait)      back K D (back from a signal)
- *   asked K C N P D (a count of N, and the first priority P, or 0) */
+ * The first line is `sizes PLACES CONDITIONS MESA`, the last line `end`. The lines between them have the place K, the
+ * condition C, the priority P and the data D of the monitor:
+ * - `admit K D`: K enters
+ * - `wait K C P D`: K waits
+ * - `signal K C D`: K signals, and a place waited
+ * - `pass K C D`: K signals as its last act, and a place waited
+ * - `leave K D`: K leaves
+ * - `notify K C D`: K notifies, and a place waited
+ * - `broadcast K C N D`: K notifies all, and N places waited
+ * - `empty K C D`: K signals or notifies, and no place waited
+ * - `resume K C D`: K is back from a wait
+ * - `back K D`: K is back from a signal
+ * - `asked K C N P D`: N places wait, and P is the first priority, or 0 */
 #include <stdbool.h>
 #include <stdio.h>
 #include <stdlib.h>
@@ -19,7 +26,7 @@ typedef struct { waiter at[MOST]; unsigned many; } list;
 
 static list waiting[8], signallers, called;
 static unsigned places, conditions, hoare, inside = NOBODY;
-static struct { char what; waiter who; } due = {'a', {0, 0, 0}}; /* a newcomer, r resume, b back */
+static struct { char what; waiter who; } due = {'a', {0, 0, 0}}; /* a admit, r resume, b back */
 static unsigned long line, calls;
 static number data;
 
@@ -31,7 +38,7 @@ static void must(bool is, const char *why) {
     if (!is) wrong(why);
 }
 static void put_last(list *l, waiter w) {
-    must(l->many < MOST, "too many wait");
+    must(l->many < MOST, "too many places wait");
     l->at[l->many++] = w;
 }
 static waiter take_at(list *l, unsigned i) {
@@ -39,7 +46,7 @@ static waiter take_at(list *l, unsigned i) {
     memmove(l->at + i, l->at + i + 1, (--l->many - i) * sizeof w);
     return w;
 }
-static unsigned least(const list *l) { /* of least priority, of equal ones the longest waiting */
+static unsigned least(const list *l) { /* the index of the least priority, of equal ones the longest waiting */
     unsigned best = 0;
     for (unsigned i = 1; i < l->many; i++)
         if (l->at[i].priority < l->at[best].priority) best = i;
@@ -67,14 +74,14 @@ static void given_up(void) {
     }
 }
 static void acts(unsigned k, number d) {
-    must(inside == k, "an act by one that isn't inside");
+    must(inside == k, "a place acts that isn't inside");
     data = d;
     calls++;
 }
 static void comes(unsigned k, char what, number d) {
-    must(inside == NOBODY, "two are inside");
-    must(due.what == what, what == 'a' ? "a newcomer came in before another that was to go on" : "it wasn't to go on");
-    must(what == 'a' ? is_outside(k) : due.who.place == k, "another was to go on");
+    must(inside == NOBODY, "two places are inside");
+    must(due.what == what, what == 'a' ? "a place entered before a place that was due" : "this place wasn't due");
+    must(what == 'a' ? is_outside(k) : due.who.place == k, "another place was due");
     must(d == data, "the data aren't as they were left");
     inside = k;
 }
@@ -84,7 +91,7 @@ static list *on(unsigned c, bool mesa) {
 }
 static waiter resumed(unsigned c) {
     list *l = on(c, false);
-    must(l->many > 0, "nobody waited");
+    must(l->many > 0, "no place waited");
     return take_at(l, least(l));
 }
 static void hands_over(unsigned c) {
@@ -94,7 +101,7 @@ static void hands_over(unsigned c) {
 }
 static void calls_one(unsigned c) {
     list *l = on(c, true);
-    must(l->many > 0, "nobody waited");
+    must(l->many > 0, "no place waited");
     put_last(&called, take_at(l, least(l)));
 }
 static void asked(const list *l, number many, number first) {
@@ -119,9 +126,9 @@ static bool reads(const char *text) {
     else if (!strcmp(kind, "pass") && many == 3) acts(k, n[2]), hands_over(c);
     else if (!strcmp(kind, "notify") && many == 3) acts(k, n[2]), calls_one(c);
     else if (!strcmp(kind, "broadcast") && many == 4) {
-        acts(k, n[3]), must(on(c, true)->many == n[2], "another number waited");
+        acts(k, n[3]), must(on(c, true)->many == n[2], "the number of waiters is wrong");
         while (waiting[c].many) calls_one(c);
-    } else if (!strcmp(kind, "empty") && many == 3) acts(k, n[2]), must(!waiting[c].many, "somebody waited");
+    } else if (!strcmp(kind, "empty") && many == 3) acts(k, n[2]), must(!waiting[c].many, "a place waited");
     else if (!strcmp(kind, "asked") && many == 5) acts(k, n[4]), asked(&waiting[c], n[2], n[3]), calls += 2;
     else if (!strcmp(kind, "end")) return false;
     else wrong("no such line");
@@ -138,8 +145,8 @@ int main(void) {
         line++;
         must(fgets(text, sizeof text, stdin) != NULL, "no end");
     } while (reads(text));
-    must(inside == NOBODY && due.what == 'a' && !signallers.many && !called.many, "somebody was still to go on");
-    for (unsigned c = 0; c < conditions; c++) must(!waiting[c].many, "somebody still waits");
+    must(inside == NOBODY && due.what == 'a' && !signallers.many && !called.many, "a place is still due");
+    for (unsigned c = 0; c < conditions; c++) must(!waiting[c].many, "a place still waits");
     printf("%lu calls in %lu lines: legal\n", calls, line);
     return 0;
 }

@@ -1,5 +1,6 @@
-/* The codes of the monitor's calls that the stress doesn't ask for: sizes, alignment, an allocation that fails, texts;
- * and threads that are cancelled while they wait. Its own rattle_alloc fails at will, and counts what is kept. */
+/* Tests the codes of the monitor's calls that the stress doesn't cause: sizes, alignment, an allocation that fails,
+ * texts; and threads that are cancelled while they wait. Its own rattle_alloc fails at will, and counts the memory that
+ * is kept. */
 #define _GNU_SOURCE
 #include "zaulinte_monitor.h"
 #include <inttypes.h>
@@ -112,7 +113,7 @@ static void texts(void) {
             IS(zaulinte_text(a) == zaulinte_text(b), a == ZAULINTE_DOOR_NONE_LEFT && b == ZAULINTE_DOOR_NOT_AWAY);
 }
 
-/* a thread that is cancelled while it waits resumes all the same, and ends at its next cancellation point, outside */
+/* a thread that is cancelled while it waits still resumes, and ends at its next cancellation point, outside */
 static _Atomic bool waits, came_back;
 static void *is_cancelled(void *unused) {
     pthread_setcanceltype(PTHREAD_CANCEL_DEFERRED, NULL);

@@ -1,8 +1,8 @@
-/* Two threads under one place, and a third under another one: no call corrupts the monitor, and a call is refused by
+/* Two threads act by one place, and a third by another place: no call corrupts the monitor, and a call is refused with
  * 103 while the other thread has the place, in a call or inside. one_place [VISITS].
  *
  * `visits`: each thread leaves only if it entered, and the data are right.
- * `misuses`: each thread makes drawn calls and ignores their codes: it ends its own visits alone, and the data are
+ * `misuses`: each thread makes drawn calls and ignores their codes: it ends only its own visits, and the data are
  * right. */
 #define _GNU_SOURCE
 #include "zaulinte_monitor.h"
@@ -15,7 +15,7 @@ typedef struct {
     uint64_t visits, seed, entered, left, refused;
 } thread;
 static zaulinte_monitor m;
-static uint64_t value; /* touched inside only */
+static uint64_t value; /* touched only inside */
 static _Atomic bool is_over, was_refused;
 static pthread_barrier_t start;
 
@@ -49,7 +49,7 @@ static void *visits(void *p) {
     }
     return NULL;
 }
-/* a drawn call: `is_inside` is whether the thread entered and hasn't left */
+/* a drawn call; `is_inside` is true if the thread entered and hasn't left */
 static void one_call(thread *t, bool is_inside) {
     uint64_t number, lot = draw(t) % 8;
     if (lot < 3) {
@@ -76,7 +76,7 @@ static void *misuses(void *p) {
     if (t->entered > t->left) ZAULINTE_CHECK(zaulinte_leave(&m, SHARED));
     return NULL;
 }
-/* under a place of its own: resumes what waits, and finds no refusal */
+/* by a place of its own: resumes the waiters, and finds no refusal */
 static void *helps(void *unused) {
     while (!is_over) {
         bool resumed = true;

@@ -1,4 +1,4 @@
-// What zaulinte.hpp refuses, and by which text; and what it tests in a build with ZAULINTE_CHECKS: refusals [FAULT].
+// Tests what zaulinte.hpp refuses, and the texts; and its checks in a build with ZAULINTE_CHECKS: refusals [FAULT].
 // -DWRONG_ENUM=1 and 2 don't compile.
 #include "zaulinte.hpp"
 #include <cstdio>

@@ -1,7 +1,7 @@
 /* Eight threads and a sweeper at one monitor of three of Hoare's conditions and a Mesa condition, with drawn waits,
  * priorities, signals, notifies and broadcasts, and with misuse, which has to be refused. The thread inside writes the
- * log, and judge.c reads it: stress CALLS [SEED [SECONDS]] | judge. With SECONDS it fails if it takes longer, and shows
- * the log so far. */
+ * log, and judge.c reads it: stress CALLS [SEED [SECONDS]] | judge. With SECONDS it fails if it takes longer, and
+ * prints the log so far. */
 #define _GNU_SOURCE
 #include "zaulinte_monitor.h"
 #include <inttypes.h>
@@ -23,12 +23,12 @@ typedef struct {
 static zaulinte_monitor m;
 static event *events;
 static size_t many, room;
-static uint64_t data, finished; /* plain: touched inside only */
+static uint64_t data, finished; /* plain: touched only inside */
 
 static void shows(void);
 static void fails(const char *why) {
     fprintf(stderr, "%s\n", why);
-    shows(); /* for the judge, as far as it came */
+    shows(); /* for the judge: the log so far */
     exit(1);
 }
 static void put(enum kind kind, uint32_t place, uint32_t condition, uint64_t number, uint64_t first) {

@@ -103,7 +103,7 @@ static void acts(monitor &m, monitor::inside &in, unsigned me, std::uint64_t &se
     std::uint64_t lot = draw(seed);
     if (lot % 2) return passes(in, me, static_cast<on>(lot / 2 % hoare));
     put(in, "leave", me);
-    if (lot % 4) throw lot; // it leaves all the same
+    if (lot % 4) throw lot; // the place leaves all the same
 }
 static void visit(monitor &m, unsigned me, std::uint64_t &seed) {
     if (auto in = m.try_enter(me)) return acts(m, *in, me, seed);

@@ -1,5 +1,6 @@
-/* Ports with a fault, for tests/bindings: condition variables by which a wake-up is lost. -DWRONG=1: nobody is woken.
- * -DWRONG=2: the word is tested before the lock is taken, with a pause between, so that a wake-up may come in between.
+/* Ports with a fault, for tests/bindings: condition variables by which a wake-up is lost. -DWRONG=1: no thread is
+ * woken.
+ * -DWRONG=2: the word is tested before the lock is taken, with a pause between, so that a wake-up may come between.
  * The stress hangs with each, and ends with -DWRONG=0. */
 #ifndef ZAULINTE_PORT_CODE
 

@@ -1,6 +1,6 @@
-/* Compares every code of every call of the door with what was worked out by hand. Tests refusals in their order, hand-offs,
- * each split of the conditions into Hoare's and Mesa conditions, and an allocation that fails, at each request in turn.
- * */
+/* Compares every code of every call of the door with what was worked out by hand. Tests refusals in their order,
+ * hand-offs, each split of the conditions into Hoare's and Mesa conditions, and an allocation that fails, at each
+ * request in turn. */
 #include "zaulinte_door.h"
 #include <inttypes.h>
 #include <stdbool.h>

@@ -1,5 +1,5 @@
 /* The book's calls once more, by hand and not proved, in the place of libbook_c.a. By it the judge is tested to find a
- * wrong book (with -DLAST_FIRST the last waiter of equal priority goes first), and the proved book's cost is measured. */
+ * wrong book (with -DLAST_FIRST the last waiter of equal priority is first), and the proved book's cost is measured. */
 #include "zaulinte_book.h"
 #include <stdbool.h>
 #include <stdlib.h>

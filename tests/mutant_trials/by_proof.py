@@ -1,11 +1,13 @@
 """Tries wrong bodies that the prover refuses: tests/mutants/CRATE/proof.
 
-They are second and third wrong bodies of a function of which must-fail keeps one; bodies of functions that aren't
-public, or only tell a field; and all bodies of a crate whose check the gate would do twice for nothing else.
+They are of three kinds:
+- second and third wrong bodies of a function of which must-fail keeps one;
+- bodies of functions that aren't public, or only return a field;
+- all bodies of a crate whose check the gate would do twice for nothing else.
 
-One check tries many bodies, each of another function: the checker says of each function whether it is proved. A body
-counts as refused there only if what is not proved is its own function, for its own text: not for a function that it
-calls. Every other body is tried alone, by `rt must-fail`, whose line is printed.
+One check tries many bodies, each of another function: the checker reports of each function if it is proved. A body
+counts as refused there only if its own function isn't proved because of its own text, not because of a function that
+it calls. Every other body is tried alone, by `rt must-fail`, whose line is printed.
 """
 import os
 import re
@@ -72,7 +74,7 @@ def module_of(crate, file):
 
 
 def checked(copy, crate):
-    """Checks the crate in its folder, and returns what was said."""
+    """Checks the crate in its folder, and returns the checker's output."""
     words = ['rt', 'check', *(['--jobs', os.environ['RT_JOBS']] if os.environ.get('RT_JOBS') else [])]
     how = {'cwd': f'{copy}/crates/{crate}', 'capture_output': True, 'text': True, 'errors': 'replace'}
     return subprocess.run(words, **how).stdout
@@ -91,14 +93,14 @@ def named(crate, body):
 
 
 def by_the_clause(crate, body, said):
-    """Returns what the checker says against the body's function, if that isn't proved for its own text."""
+    """Returns the checker's lines against the body's function, if that isn't proved because of its own text."""
     folder = '/'.join(module_of(crate, body.file).split('::')[1:] + [r'(?:[\w+-]+/)*' + body.function])
     of_an_answer = rf'\./proofs/{folder}/[\w/+-]+\.antt:\d+:\d+: error: (?!.*(?:{CITES}))'
     return re.search(rf'^(?:{named(crate, body)}{REFUSES}|{of_an_answer}).*$', said, re.M)
 
 
 def is_called(crate, body, said):
-    """Returns whether the checker said nothing of the body's function, since one that it calls isn't proved."""
+    """Returns true if the checker skipped the body's function, since a function that it calls isn't proved."""
     return re.search(rf'^{named(crate, body)}no proof: it calls ', said, re.M)
 
 

@@ -1,7 +1,7 @@
 """Tries wrong bodies that no clause refuses, by tests: tests/mutants/CRATE/test, where CRATE is the crate of the tests.
 
-Each is planted in a copy of the sources, where the tests of the crate are run, unproved, until one fails, the one of
-the edit's line `test:` if it has such a line. What runs is ended then. A program that stores its output has one test,
+Each is planted in a copy of the sources. There the tests of the crate are run, unproved, until one fails: the test of
+the edit's line `test:` if it has such a line. Then the run is ended. A program that stores its output has one test,
 stored_run: it fails if that output differs, and a line `test:` then is text of a line that differs.
 """
 import os
@@ -55,7 +55,7 @@ def failed(test, said):
 
 
 def fails(copy, crate, edit):
-    """Returns whether a test of the crate fails with the edit in the copy, and says which."""
+    """Returns true if a test of the crate fails with the edit in the copy, and prints which."""
     folder, log = f'{copy}/crates/{crate}', f'{copy}/said'
     with planted(copy, [edit]):
         if os.path.exists(f'{folder}/stdout'):

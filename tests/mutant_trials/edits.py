@@ -88,7 +88,7 @@ def changed_lines(edit, texts):
 
 @contextlib.contextmanager
 def planted(copy, edits):
-    """Has the edits in the copy, each as if it were there alone. At the end the files are as they were."""
+    """Puts the edits into the copy, each as if it were the only one. At the end the files are as they were."""
     before = {change.file: read(f'{copy}/{change.file}') for edit in edits for change in edit.changes}
     after = {file: text.split('\n') for file, text in before.items()}
     for edit in edits:

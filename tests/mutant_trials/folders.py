@@ -1,4 +1,4 @@
-"""The folders tests/mutants/CRATE/KIND, and whether their wrong bodies were tried as the sources are now.
+"""The folders tests/mutants/CRATE/KIND, and if their wrong bodies were tried with the present sources.
 
 The hash of a folder is of all that the verdict on it depends on: the sources of CRATE and of all crates below it
 (tests/source_hash.py), and the edits. Its file LAST has the hash of what was tried last and found wrong as a whole. The
@@ -53,14 +53,14 @@ class Folder(NamedTuple):
         return read(self.path('LAST')).split()[0] if os.path.exists(self.path('LAST')) else None
 
     def keep(self, tried):
-        """Writes the hash that was tried into LAST, unless what it stands for has changed meanwhile."""
+        """Writes the hash that was tried into LAST, unless what was hashed has changed meanwhile."""
         if self.hash() != tried:
-            print(f'{self}: LAST is not written: what its verdict depends on changed during the run')
+            print(f"{self}: LAST isn't written: sources or edits changed during the run. Try this folder again")
             return
         write(self.path('LAST'), f'{tried} {datetime.date.today()}\n')
 
     def is_touched(self, changed):
-        """Returns whether one of these paths is a source of the crate, or an edit of the folder."""
+        """Returns true if one of these paths is a source of the crate, or an edit of the folder."""
         touching = re.compile(rf'crates/{self.crate}/(src|specs|proofs)/|{self}/.*\.edit$')
         return any(map(touching.match, changed))
 
@@ -78,7 +78,7 @@ def stale_folders(root):
 
 
 def git(root, *words):
-    """Returns what git says of the repository itself, or None if it isn't here or fails."""
+    """Returns git's output for the repository itself, or None if git isn't here or fails."""
     kept = {name: value for name, value in os.environ.items() if not name.startswith('GIT_')}
     kept['GIT_CEILING_DIRECTORIES'] = os.path.dirname(root)
     if not shutil.which('git'):

@@ -1,5 +1,7 @@
-"""The words of the laws of overtaking: a split of a legal history into h and the events that come later, what the laws
-count in these events, and the cases that a clause is about: each waiting signaller, each waiter, and so on.
+"""The words of the laws of overtaking.
+
+They are a split of a legal history into h and the events that come later, what the laws count in these events, and the
+cases that a clause is about: each waiting signaller, each waiter, and so on.
 """
 from __future__ import annotations
 
@@ -30,7 +32,7 @@ def in_two_lines(first: Events, later: Events) -> str:
 
 
 class Standing(NamedTuple):
-    """An element of a list, with the elements before it and behind it (places, or the events of their waits)."""
+    """An element of a list, with the elements before it and those after it (places, or the events of their waits)."""
     before: tuple
     itself: Any
     behind: tuple
@@ -47,9 +49,9 @@ Cases = Callable[[Any], list]
 
 
 class Clause:
-    """A clause of a law, or a wrong one: the cases that it is about, what it says of one, and what was found.
+    """A clause of a law, or a wrong clause: the cases that it is about, what has to hold in a case, and what was found.
 
-    Its law is named by the class that the function `holds` stands in, and the clause by the function."""
+    Its law has the name of the class that the function `holds` is in, and the clause that of the function."""
 
     def __init__(self, cases: Cases, holds: Callable[[Any, Any], bool]) -> None:
         self.cases = cases

@@ -10,7 +10,7 @@ from typing import Iterable, Iterator, List, NamedTuple, Optional, Sequence, Set
 
 
 class Sizes(NamedTuple):
-    """How many places and conditions a monitor has; the last `mesa` of the conditions are Mesa conditions."""
+    """The numbers of places and conditions of a monitor; the last `mesa` of the conditions are Mesa conditions."""
     places: int
     conditions: int
     mesa: int
@@ -112,7 +112,7 @@ def chosen(waits: Events) -> Optional[Event]:
 
 
 def in_order(waits: Iterable[Event]) -> Events:
-    """Returns the waits by rising priority, and waits with equal priorities as they stood."""
+    """Returns the waits by rising priority, and waits with equal priorities in the order in which they were."""
     return tuple(sorted(waits, key=lambda wait: wait.priority))
 
 
@@ -243,7 +243,7 @@ class Monitor(NamedTuple):
 def names_in_order(place: int, events: Events) -> bool:
     """Returns true if the place acted already, or all places of lesser numbers did.
 
-    No definition and no law tells places apart by their numbers. So only histories are tried in which the places act
+    No definition and no law depends on the numbers of the places. So only histories are tried in which the places act
     for the first time in the order of their numbers: any other is one of these, renamed (see `is_one_renamed`)."""
     return acts(place, events) or all(acts(lesser, events) for lesser in range(place))
 

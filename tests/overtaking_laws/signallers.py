@@ -12,19 +12,19 @@ class signallers_return_in_turn:
 
     @clause(each_signaller)
     def order(split: Split, one: Standing) -> bool:
-        """The signallers before it return in turn, no other does, and later signallers join behind."""
+        """The signallers before it return in turn, no other does, and later signallers join after it."""
         left = one.before[len(returned(split.later)):]
         return (one.before == returned(split.later) + left
                 and begins_with(left + (one.itself,) + one.behind, split.whole.urgent))
 
     @clause(each_signaller)
     def others(split: Split, one: Standing) -> bool:
-        """The signallers before it and behind it are other places."""
+        """The signallers before it and after it are other places."""
         return one.itself not in one.before + one.behind
 
     @wrong(each_signaller)
     def nobody_joins(split: Split, one: Standing) -> bool:
-        """The signallers before it return in turn, and none joins behind."""
+        """The signallers before it return in turn, and none joins after it."""
         return returned(split.later) + split.whole.urgent == one.before + (one.itself,) + one.behind
 
     @wrong(each_signaller)
@@ -112,7 +112,7 @@ class no_admission_meanwhile:
 
 
 class few_visits_until_return:
-    """From its signal until it returns a signaller waits for at most m + 2n visits of other places, where its signal
+    """From its signal until it returns a signaller waits for at most m + 2n visits of other places, if its signal
     finds m waiters on conditions and n signallers."""
 
     @clause(each_signal_held_up)
@@ -168,7 +168,7 @@ class few_visits_until_return:
 
 
 class between_signal_and_return:
-    """What comes between a signal and the signaller's return, where the signal finds m waiters and n signallers."""
+    """What comes between a signal and the signaller's return, if the signal finds m waiters and n signallers."""
 
     @clause(each_signal_and_return)
     def released(split: Split, call: Call) -> bool:

@@ -28,7 +28,7 @@ class called_resume_in_turn:
 
     @clause(each_called)
     def order(split: Split, one: Standing) -> bool:
-        """The called processes before it resume in turn, no other does, and later ones join behind."""
+        """The called processes before it resume in turn, no other does, and later ones join after it."""
         gone = resumed_called(split.sizes, split.later)
         left = one.before[len(gone):]
         return (places_of(one.before) == gone + places_of(left)
@@ -36,7 +36,7 @@ class called_resume_in_turn:
 
     @clause(each_called)
     def others(split: Split, one: Standing) -> bool:
-        """The called processes before it and behind it are other places."""
+        """The called processes before it and after it are other places."""
         return one.itself.place not in places_of(one.before + one.behind)
 
     @wrong(each_called)
@@ -46,7 +46,7 @@ class called_resume_in_turn:
 
     @wrong(each_called)
     def nobody_joins(split: Split, one: Standing) -> bool:
-        """The called processes before it resume in turn, and none joins behind."""
+        """The called processes before it resume in turn, and none joins after it."""
         order_of_all = resumed_called(split.sizes, split.later) + places_of(split.whole.called)
         return order_of_all == places_of(one.before + (one.itself,) + one.behind)
 
@@ -129,29 +129,29 @@ class waiters_taken_in_turn:
 
     @clause(each_waiter)
     def at_most(split: Split, one: Standing) -> bool:
-        """The waiters taken are at most those that stood before it or undercut it."""
+        """The waiters taken are at most those that were before it or undercut it."""
         return taken(split, one) <= len(one.before) + undercuts(split, one)
 
     @wrong(each_waiter)
     def at_most_one_less(split: Split, one: Standing) -> bool:
-        """The waiters taken are fewer than those that stood before it or undercut it, unless these are none."""
+        """The waiters taken are fewer than those that were before it or undercut it, unless these are none."""
         count = len(one.before) + undercuts(split, one)
         return count == 0 or taken(split, one) < count
 
     @wrong(each_waiter)
     def at_most_without_undercutting(split: Split, one: Standing) -> bool:
-        """The waiters taken are at most those that stood before it."""
+        """The waiters taken are at most those that were before it."""
         return taken(split, one) <= len(one.before)
 
     @clause(each_waiter)
     def its_turn(split: Split, one: Standing) -> bool:
-        """It is chosen exactly when the waiters taken are as many as stood before it or undercut it."""
+        """It is chosen exactly when the waiters taken are as many as were before it or undercut it."""
         is_chosen = chosen(split.whole.waiting[one.itself.condition]) == one.itself
         return is_chosen == (taken(split, one) == len(one.before) + undercuts(split, one))
 
     @wrong(each_waiter)
     def its_turn_one_earlier(split: Split, one: Standing) -> bool:
-        """It is chosen exactly when the waiters taken are at most one fewer than stood before it or undercut it."""
+        """It is chosen exactly when the waiters taken are at most one fewer than were before it or undercut it."""
         is_chosen = chosen(split.whole.waiting[one.itself.condition]) == one.itself
         return is_chosen == (taken(split, one) + 1 >= len(one.before) + undercuts(split, one))
 

@@ -1,12 +1,12 @@
 #!/usr/bin/env python3
 """Counts the orders of small monitor programs, apart from crates/order_explorer.
 
-    tests/orders.py            a line for each program: how many orders end, or in which run the first bad one comes
-    tests/orders.py STDOUT..   the same, and compares them with what explorer_program and first_orders wrote into these
+    tests/orders.py            a line for each program: how many orders end, or which run is the first bad one
+    tests/orders.py STDOUT..   the same, and compares them with these outputs of explorer_program and first_orders
 
 A program is a list of threads, each a generator over shared data that yields its calls. Whenever the monitor is free
-and nobody is owed it, each of those that want in is let in, in a run of its own: first the next behind who came in
-last, round the places."""
+and no place is owed it, each place that is to enter enters, in a run of its own. The first run takes the next place
+after the one that entered last, round the places."""
 
 import sys
 
@@ -51,7 +51,7 @@ class Monitor:
             self.inside = None
 
     def outside(self, place):
-        """The place runs on to its next enter or its end. A try comes in where the monitor is free."""
+        """Runs the place to its next enter or its end. A `try_enter` succeeds if the monitor is free."""
         try:
             call = self.threads[place].send(None)
             while call == ("try",):
@@ -111,7 +111,7 @@ class Monitor:
 
 
 def run(make, order, patience):
-    """The run of this order: who wants in behind it, or how it ended."""
+    """Runs this order. Returns the places that are to enter after it, or how it ended."""
     threads, is_right = make()
     monitor = Monitor(threads, patience)
     for place in range(len(threads)):
@@ -134,7 +134,7 @@ def run(make, order, patience):
 
 
 def explore(make, patience=PATIENCE):
-    """In words: how many orders end, or which run is the first that doesn't."""
+    """Returns in words how many orders end, or which run is the first that doesn't."""
     runs = 0
     rows = [[]]
     while rows:

@@ -1,7 +1,6 @@
-/* The two functions by which the archives allocate and free memory, for programs without malloc. The memory is one
- * array of ZAULINTE_ROOM bytes, and becomes free again once every piece of it was freed. A monitor of 64 places needs
- * some 6 KB, a book some 3 KB. NOT PROVED. There is no lock: one thread at a time makes and frees monitors and books (a
- * monitor's other calls don't allocate). */
+/* The two names by which the archives take memory, for programs without malloc: out of one array of ZAULINTE_ROOM bytes.
+ * What was taken is free again once all of it is. NOT PROVED. A monitor of 64 places takes some 6 KB, a book some 3 KB.
+ * It has no lock: one thread at a time makes and frees monitors and books (a monitor's other calls take no memory). */
 #include <stdbool.h>
 #include <stddef.h>
 

@@ -1,9 +1,9 @@
-/* The floors beside the columns: what the machine takes for a locked operation, for a mutex that is locked and unlocked,
-   for a line of the cache from one core to another, for a wake by the system and for a yield. Then a plain ticket lock,
-   for the order by tickets alone.
+/* The floors beside the columns: the machine's times for a locked operation, for a lock and an unlock of a mutex, for a
+   cache line from one core to another, for a wake-up by the system and for a yield. Then a plain ticket lock, which has
+   nothing but the order by tickets.
 
      gcc -O2 -pthread -o build/floors peers/floors.c && build/floors [TURNS]
-     build/floors --mutex [TURNS]     the mutex alone, as a row of bench/run */
+     build/floors --mutex [TURNS]     only the mutex, as a row of bench/run */
 #define _GNU_SOURCE
 #include <linux/futex.h>
 #include <pthread.h>
@@ -39,7 +39,7 @@ static void bind_to(int core) {
     sched_setaffinity(0, sizeof set, &set);
 }
 
-/* one thread, its own line */
+/* one thread, its own cache line */
 static cell word __attribute__((aligned(64)));
 #define EACH(name, step)                                              \
     do {                                                              \
@@ -59,7 +59,7 @@ static void locked_operations(void) {
          __atomic_compare_exchange_n(&word, &none, 1, 0, __ATOMIC_SEQ_CST, __ATOMIC_SEQ_CST); __atomic_exchange_n(&word, 0, __ATOMIC_SEQ_CST));
 }
 
-/* a mutex, locked and unlocked by a thread that isn't the only one: in the only one the C library locks nothing */
+/* a mutex, locked and unlocked while a second thread exists: with one thread the C library locks nothing */
 static pthread_mutex_t mutex = PTHREAD_MUTEX_INITIALIZER;
 static uint64_t counted;
 static void *locks(void *turns) {
@@ -83,7 +83,7 @@ static void mutexes(void) {
     show("a mutex: a lock and an unlock", all, 101);
 }
 
-/* two threads on two cores write the line in turn */
+/* two threads on two cores write the cache line in turn */
 static void *answers(void *other) {
     bind_to((int)(intptr_t)other);
     for (uint64_t turn = 0; turn < (uint64_t)BATCHES * HANDS; turn++) {
@@ -113,7 +113,7 @@ static void transfers(int other) {
     show(name, all, BATCHES);
 }
 
-/* a sleeper and who wakes it */
+/* a sleeper and the thread that wakes it */
 static uint32_t bell __attribute__((aligned(64)));
 static double rung, heard[WAKES];
 static void *sleeps(void *unused) {
@@ -157,7 +157,7 @@ static void yields(void) {
     printf("%-34s %.1f\n%-34s %.1f\n", "a yield, in the mean", sum / count, "a yield, the longest", most);
 }
 
-/* a ticket lock: who is next looks, and yields after 500 looks; who is farther yields at once */
+/* a ticket lock: the next thread polls, and yields after 500 polls; a thread further back yields at once */
 static struct { cell next, pad[7], serving, pad2[7], value; } lock __attribute__((aligned(64)));
 static void *adds(void *turns) {
     for (uint64_t i = 0; i < (uint64_t)(uintptr_t)turns; i++) {

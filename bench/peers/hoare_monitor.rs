@@ -1,6 +1,6 @@
-// A Hoare monitor over std's Mutex and Condvar: one control lock, a condition variable for each place. The signaller gives
-// the monitor over to the waiter and joins the urgent queue; waiters stand by priority, then by time. The order among
-// newcomers is open.
+// A Hoare monitor over std's Mutex and Condvar: one control lock, a condition variable for each place. The signaller
+// hands the monitor to the waiter and joins the urgent queue. Waiters are ordered by priority, then by time. The order
+// among entering threads isn't specified.
 use std::cell::UnsafeCell;
 use std::collections::VecDeque;
 use std::sync::{Condvar, Mutex, MutexGuard};
@@ -56,7 +56,7 @@ impl<D> Monitor<D> {
             }
             None => {
                 c.busy = false;
-                // (std's notify_one is a system call, whether or not anybody waits)
+                // (std's notify_one is a system call, even if no thread waits)
                 if c.asking > 0 {
                     self.newcomers.notify_one();
                 }

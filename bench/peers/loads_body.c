@@ -1,7 +1,7 @@
-/* The loads of a Hoare monitor in C, and main, for the file that includes this one and defines `monitor` (with the data
-   `value`, `cells`, `count`, `last` and `finished`), `make`, and each call by a place: enter, leave, wait_on, signal_on,
-   signal_leave, queue, waiting (how many) and all_wait (on every condition). A program's argument is TURNS; it prints a
-   line for each measurement. */
+/* The loads of a Hoare monitor in C, and main. The file that includes this one defines `monitor` (with the data `value`,
+   `cells`, `count`, `last` and `finished`), `make`, and each call by a place: enter, leave, wait_on, signal_on,
+   signal_leave, queue, waiting (how many) and all_wait (on every condition). A program's argument is TURNS, the number
+   of iterations; it prints a line for each measurement. */
 static void append(monitor *m, int me, uint64_t x) {
     enter(m, me);
     if (m->count == RING) wait_on(m, me, 1, 0);
@@ -19,8 +19,8 @@ static uint64_t take(monitor *m, int me) {
     return x;
 }
 
-/* what a place meets between its visits: the most others that were let in, all of them, how often none, how many
-   visits */
+/* what a place meets between its visits: the most others that entered, their sum, how often no other entered, and the
+   number of visits */
 typedef struct { uint64_t largest, sum, none, visits; } others;
 typedef struct { monitor *m; int me; uint64_t turns, sum; others met; } job;
 static void *adds(void *p) {
@@ -123,8 +123,8 @@ static void *consumes(void *p) {
     return NULL;
 }
 
-/* Even threads run one body, odd ones another, the last one a third, with its own number of turns; the time is shared
-   by all. */
+/* Even threads run one body, odd ones another, the last one a third, with its own number of iterations; the
+   time is divided by all. */
 typedef struct {
     int threads;
     void *(*even)(void *), *(*odd)(void *), *(*last)(void *);

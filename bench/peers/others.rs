@@ -1,4 +1,4 @@
-// How many others a place meets between its visits. A file that includes this one counts who is let in.
+// How many other places enter between two visits of a place. A file that includes this one counts each that enters.
 
 #[derive(Default)]
 struct Others {

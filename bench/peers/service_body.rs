@@ -1,7 +1,7 @@
-// The disk service in plain Rust, by the steps of crates/disk_service: a clock thread, workers, and six monitors. Without the
-// refusals that such a service never meets. Each procedure tests again after a wait: on Hoare's monitor the second test never
-// finds a cause to wait, on Mesa's it is needed. A file that includes this one has `Monitor<D>` with `new(data, places)`, and
-// `Inside<D>` with `enter`, `wait`, `queue`, `leave` and `signal_leave`.
+// The disk service in plain Rust, by the steps of crates/disk_service: a clock thread, workers, and six monitors. It
+// leaves out the refusals that such a service never meets. Each procedure tests again after a wait: on Hoare's monitor
+// the second test never finds a cause to wait, on Mesa's it is needed. A file that includes this one has
+// `Monitor<D>` with `new(data, places)`, and `Inside<D>` with `enter`, `wait`, `queue`, `leave` and `signal_leave`.
 use std::fmt::Write as _;
 use std::io::{Read, Write as _};
 use std::thread;
@@ -172,7 +172,7 @@ impl<T: Copy> Monitor<ReadersWriters<T>> {
         if d.busy || d.queue(1) {
             d = d.wait(me, 0, 0);
         }
-        // (a writer that came in since then; the writers that wait let the readers go first that waited before)
+        // (tests for a writer that entered since then; waiting writers let the readers go first that waited before)
         while d.busy {
             d = d.wait(me, 0, 0);
         }
@@ -224,7 +224,8 @@ struct Done {
     block: u16,
 }
 
-// The six monitors. Worker k has place k in each of which it has one; behind the workers come the caller and the clock thread.
+// The six monitors. Worker k has place k in each monitor in which it has a place. The places after the workers' are
+// those of the caller and the clock thread.
 struct Service {
     items: Monitor<Buffer>,
     clock: Monitor<Alarm>,
@@ -261,7 +262,8 @@ impl Service {
         }
     }
 
-    // Ten visits of a monitor for each job. The caller's append is the eleventh, the tick that the job waits for the twelfth.
+    // Ten visits of a monitor for each job. The caller's append is the eleventh, the tick that the job waits for the
+    // twelfth.
     fn work(&self, me: usize, cylinders: &[u16], mut results: Vec<Done>) -> Vec<Done> {
         while let Some(job) = self.items.remove(me) {
             let buffer = self.pool.take(me);

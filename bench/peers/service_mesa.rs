@@ -1,12 +1,13 @@
-// The disk service on a Mesa monitor: a lock, and a condition variable for each place, so that a signal wakes whom it names. The
-// signaller goes on, and who is woken tests again. `service_mesa < JOBS` writes the report.
+// The disk service on a Mesa monitor: a lock, and a condition variable for each place, so that a signal wakes the
+// thread that it names. The signaller continues, and the woken thread tests again. `service_mesa < JOBS` writes the
+// report.
 use std::collections::BTreeMap;
 use std::ops::{Deref, DerefMut};
 use std::sync::{Condvar, Mutex, MutexGuard};
 
 const CONDITIONS: usize = 2;
 
-// The data, and who waits on each condition: by priority, then by time.
+// The data, and the waiters on each condition: by priority, then by time.
 struct State<D> {
     data: D,
     waiting: [BTreeMap<(u64, u64), usize>; CONDITIONS],
@@ -67,7 +68,7 @@ impl<'a, D> Inside<'a, D> {
 
     fn leave(self) {}
 
-    // (the bell rings after the lock is free, so that who is woken finds it so)
+    // (the bell rings after the lock is free, so that the woken thread finds it free)
     fn signal_leave(mut self, cond: usize) {
         let Some((_, first)) = self.state.waiting[cond].pop_first() else { return };
         self.state.called[first] = true;

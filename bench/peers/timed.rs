@@ -1,4 +1,5 @@
-// Runs a program once, from a file to a file, and prints how many microseconds it took: `timed INPUT OUTPUT PROGRAM ARGUMENT..`.
+// Runs a program once, from a file to a file, and prints how many microseconds it took: `timed INPUT OUTPUT PROGRAM
+// ARGUMENT..`.
 use std::env;
 use std::fs::File;
 use std::process::{exit, Command};

@@ -1,5 +1,5 @@
-// What an uncontended visit is made of: the steps of an enter and leave at the baton door, rebuilt on plain memory and added one
-// by one. Prints the least nanoseconds of nine rounds for each sum of steps.
+// Measures the parts of an uncontended visit: the steps of an enter and leave at the baton door, rebuilt on plain
+// memory and added one by one. Prints the least nanoseconds of nine rounds for each sum of steps.
 //
 //   gcc -O2 -o build/visit_parts peers/visit_parts.c && build/visit_parts
 #include <stdint.h>

@@ -1,9 +1,9 @@
-# Read by the scripts beside it: how much of the processors' time the machine's host took meanwhile, and a load.
+# For the scripts beside it: how much of the processors' time the machine's host took meanwhile, and busy threads.
 
-# mark_time: from here on
+# mark_time: begins a measure of the stolen time
 mark_time() { marked=$(awk '/^cpu / { for (i = 2; i <= 9; i++) all += $i; print $9, all }' /proc/stat); }
 
-# stolen_time: of 100 seconds of all processors since the mark, those that the host took
+# stolen_time: prints how many of 100 seconds of all processors the host took since the mark
 stolen_time() {
     awk -v marked="$marked" '/^cpu / {
         split(marked, mark, " ")
@@ -12,7 +12,7 @@ stolen_time() {
     }' /proc/stat
 }
 
-# start_busy N: N threads that are busy until the script ends; `each` is one for each core
+# start_busy N: starts N threads that are busy until the script ends; N is `each` for one on each core
 start_busy() {
     busy=$1
     if [ "$busy" = each ]; then busy=$(nproc); fi
@@ -25,5 +25,5 @@ start_busy() {
     trap 'kill $spinners 2> /dev/null' EXIT INT TERM
 }
 
-# beside_what: the words for it in a table's head
+# beside_what: prints the words for the busy threads in a table's head
 beside_what() { [ "${busy:-0}" = 0 ] || printf ', %s busy beside it' "$busy"; }

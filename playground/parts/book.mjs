@@ -1,11 +1,11 @@
-// The calls of the proved book. Nothing in this file decides which place is next: each answer is the module's.
+// The calls of the proved book. Nothing in this file decides which place is next: each result is the module's.
 //
 // The sixteen calls report which place is inside, which are outside, and how many wait on a condition. They don't
 // report an order. `look` finds the orders by experiment: it takes further books through the same steps, lets every
 // place resume and leave, and notes which comes after which. Such a book has one more place, the watcher's, and
 // one has one more Hoare condition.
 
-export const NOBODY = 64; // the answer if no place is inside; a greater one is a refusal
+export const NOBODY = 64; // the result if no place is inside; a greater one is a refusal
 export const MOST_PLACES = 63; // of the book's 64 the watcher has one
 export const MOST_CONDITIONS = 7; // of the book's 8 the watcher has one
 
@@ -85,8 +85,8 @@ class Book {
     }
 }
 
-// Takes a book through steps that were answered before. Refused steps changed nothing and are left out. Throws if an
-// answer differs from the one that it had.
+// Takes a book through steps whose results are known. Refused steps changed nothing and are left out. Throws if a
+// result differs from the known one.
 function replay(book, done, changed = (it) => it) {
     for (const it of done.filter(({ name, code }) => name in STEPS && !is_refused(code))) {
         const code = book.step(changed(it));
@@ -100,7 +100,7 @@ function answer(book, it) {
     return { ...it, code: book.step(it) };
 }
 
-// Answers commands, one after the other, in one book. Returns { code, value: [{ name, words, code, priority }] }.
+// Runs commands, one after the other, in one book. Returns { code, value: [{ name, words, code, priority }] }.
 export function answer_all(module, sizes, commands) {
     return module.with_book(sizes, (book) => commands.map((it) => answer(book, it)));
 }
@@ -126,7 +126,7 @@ function leaving(book, place) {
     return order;
 }
 
-// Returns the waiters of a condition, in the order in which they would resume. Nobody is inside before or after.
+// Returns the waiters of a condition, in the order in which they would resume. No place is inside before or after.
 function waiters(book, watcher, condition, is_mesa) {
     if (book.count(condition) === 0) return [];
     const list = [];

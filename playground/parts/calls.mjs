@@ -1,5 +1,5 @@
 // The calls that a visitor can choose as the next step: a button for each call of the chosen place, and for each
-// question. A call that would be refused has a button that is off and says its refusal. Each is tried on a book of its
+// question. A call that would be refused has a button that is off and shows its refusal. Each is tried on a book of its
 // own.
 import { NOBODY, STEPS, all, is_refused, try_each } from "./book.mjs";
 import { make } from "./show.mjs";
@@ -123,21 +123,21 @@ export class Calls {
         }
     }
 
-    // Says what came of a visitor's act; a screen reader says it too.
+    // Shows the outcome of a visitor's act; a screen reader reads it too.
     say(text, is_no = false) {
         $("call-hint").textContent = "";
         $("call-message").textContent = text;
         $("call-message").classList.toggle("refused", is_no);
     }
 
-    // Shows what a button would be answered. A screen reader has it with the button's name.
+    // Shows what the call of a button would return. A screen reader reads it with the button's name.
     hint(text, is_no) {
         $("call-message").textContent = "";
         $("call-hint").textContent = text;
         $("call-hint").classList.toggle("refused", is_no);
     }
 
-    // Moves the focus to the first button that is on: the one that had it is gone.
+    // Moves the focus to the first button that is on: the button that had it is gone.
     focus() {
         $("buttons").querySelector("button:not([aria-disabled])")?.focus({ preventScroll: true });
     }

@@ -88,7 +88,7 @@ function hand_off(before, after, lane_of, y) {
 }
 
 // Returns { lanes, shapes }: the shapes as lines of an SVG, with the first box at `left` and the first row at `top`.
-// As in script_picture, arrows are behind the boxes if there are Mesa conditions, and before them if there are none.
+// As in script_picture, arrows are under the boxes if there are Mesa conditions, and over them if there are none.
 export function drawn(states, { places, mesa }, left, top) {
     const rows = states.slice(1);
     const lanes = lanes_of(rows, places, left);

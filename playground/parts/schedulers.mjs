@@ -1,8 +1,8 @@
 // What the monitors of the examples state of their data: `rest` and `ready`, in the words of the specs of
 // crates/plain_schedulers, timed_schedulers and sweep_schedulers. Each clause is a sentence and a test of it. A test
 // reads the example's data, the waiting priorities `q` of each condition, the least first, and for `ready` the
-// priority `p` of the resumed place, which is no longer among them. `show` says the data in words, `draw` draws them,
-// and `caption` says what the drawing has that the words don't.
+// priority `p` of the resumed place, which is no longer among them. `show` gives the data in words, `draw` draws them,
+// and `caption` explains what the drawing has that the words don't.
 
 import { NOBODY, STEPS, all, is_refused } from "./book.mjs";
 import { cells, line } from "./scenes.mjs";
@@ -169,7 +169,7 @@ export function data_after(notes) {
     return states;
 }
 
-// Says which place finds rest when the monitor is released, if one does.
+// Returns in words which place finds rest when the monitor is released, if one does.
 function next_finds(before, { inside }, place) {
     if (inside === NOBODY) return "";
     if (before.signallers.includes(inside)) return ` ${capital(place(inside))}, which returns, finds it.`;

@@ -1,6 +1,6 @@
 // usage: node access.mjs PAGE.html
-// The page for a keyboard, a screen reader, a narrow screen and a dark one, in a headless Chromium: names and roles of
-// its accessibility tree, the order of the focus, the live regions, widths, targets, and contrast.
+// Tests the page for a keyboard, a screen reader, a narrow screen and a dark one, in a headless Chromium. Tests the
+// names and roles of its accessibility tree, the order of the focus, the live regions, widths, targets, and contrast.
 import { Checks } from "./checks.mjs";
 import { pause } from "./driver.mjs";
 import { KEYS, open_page } from "./page.mjs";
@@ -256,7 +256,7 @@ async function check_sticky() {
     }
 }
 
-// The contrast of the texts on the page. A text's ground is the nearest opaque colour behind it; in a row of the lanes
+// The contrast of the texts on the page. A text's ground is the nearest opaque colour under it; in a row of the lanes
 // that is yet to come, its box under the veil.
 const RATIO = `
     const rgb = (it) => it.match(/[0-9.]+/g).map(Number);

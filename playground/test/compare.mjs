@@ -1,5 +1,5 @@
 // usage: node --experimental-wasm-memory64 compare.mjs MODULE.wasm SCRIPTS
-// Holds the module's answers against those of the native library, which native.c wrote into the file SCRIPTS. Prints
+// Compares the module's results with those of the native library, which native.c wrote into the file SCRIPTS. Prints
 // how many answers were compared; the status is 1 if one differs.
 import { readFileSync } from "node:fs";
 import { load } from "../parts/book.mjs";

@@ -4,9 +4,9 @@ import { existsSync, mkdtempSync, rmSync } from "node:fs";
 import { tmpdir } from "node:os";
 import { join } from "node:path";
 
-const TRIES = 100; // to reach the driver
-const BETWEEN = 200; // two tries, in milliseconds
-const SCRIPT_TIME = 120000; // that one call may take, in milliseconds
+const TRIES = 100; // attempts to reach the driver
+const BETWEEN = 200; // two attempts, in milliseconds
+const SCRIPT_TIME = 120000; // the limit of one call, in milliseconds
 const ARGS = ["--headless=new", "--no-sandbox", "--disable-gpu", "--hide-scrollbars", "--window-size=1280,1000"];
 
 export const pause = (ms) => new Promise((it) => setTimeout(it, ms));
@@ -48,7 +48,7 @@ async function reach(port) {
         if (await is_ready(port)) return;
         await pause(BETWEEN);
     }
-    throw new Error("chromedriver doesn't answer");
+    throw new Error("chromedriver doesn't respond");
 }
 
 const key_actions = (keys) => [...keys].flatMap((value) => [{ type: "keyDown", value }, { type: "keyUp", value }]);

@@ -29,7 +29,7 @@ async function check_typing() {
     checks.same([seen.text, seen.focus, seen.at], ["monitor 9 1", "undo", 0], "Undo of what was written");
 }
 
-// Typing on the page of two monitors makes it a page of one, and goes on.
+// Typing on the page of two monitors makes it a page of one, and typing continues.
 async function check_typing_beside() {
     await go("#e=mesa&at=0");
     await focus("#text");

@@ -1,6 +1,7 @@
 // usage: node --experimental-wasm-memory64 lanes.mjs MODULE.wasm [PROGRAM]
-// The lanes of the page beside those of script_picture, line by line: the pictures of the folder examples, which it
-// drew, and if PROGRAM is there (picture_program) what it draws of each example and each worked row.
+// Compares the lanes of the page with those of script_picture, line by line. These are the pictures of the folder
+// examples, which it drew. If PROGRAM (picture_program) is there, also what it draws of each example and each worked
+// row.
 import { execFileSync } from "node:child_process";
 import { existsSync, readFileSync } from "node:fs";
 import { load } from "../parts/book.mjs";

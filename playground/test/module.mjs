@@ -1,5 +1,5 @@
 // usage: node --experimental-wasm-memory64 module.mjs MODULE.wasm
-// The module, and what the page reads off it, without a browser: its imports, the worked rows of scripts, faults,
+// Tests the module, and what the page reads of it, without a browser: its imports, the worked rows of scripts, faults,
 // links, and the states beside a monitor of plain lists that is written here.
 import { readFileSync } from "node:fs";
 import { NOBODY, answer_all, load, look } from "../parts/book.mjs";

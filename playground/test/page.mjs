@@ -48,7 +48,7 @@ export async function open_page(file) {
                 if (await run(is_up)) return;
                 await pause(100);
             }
-            throw new Error("the page doesn't come up");
+            throw new Error("the page didn't load in time");
         },
         read: () => run(READ),
         click: (what) => run("document.querySelector(arguments[0]).click()", what),

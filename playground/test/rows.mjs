@@ -11,7 +11,7 @@ const literal = (text) => text.replace(/\\\n\s*/g, "").replaceAll("\\n", "\n");
 function row_of_rows(name, body) {
     const [, header, inner] = body.match(/check\(&rt, "([^"]*)", (?:rows|"([^"]*)")\)/) ?? [];
     const text = inner ?? body.match(/let rows = "([^"]*)"/)?.[1];
-    if (!header || !text) throw new Error(`the test ${name} of script_trials isn't read`);
+    if (!header || !text) throw new Error(`the test ${name} of script_trials has another form: mend rows.mjs`);
     return { name, header, steps: literal(text).trim().split("\n").map((it) => it.split(" -> ")) };
 }
 

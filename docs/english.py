@@ -1,8 +1,8 @@
-"""What docs/check english counts: habits of wording that a program can find, in the pages and in comments.
+"""Counts habits of wording that a program can find, in the pages and in comments, for docs/check english.
 
   `who`      `who`, `whom` or `whoever` for a process, thread or place. Name the actor
   `where`    `where` in the sense of `if` or `when`
-  `behind`   each use: it is for positions alone, and there are few of those
+  `behind`   each use: it is only for positions, and there are few of those
   `whether`  a result given as `: whether ..` or `Whether ..`. Write `Returns true if ..`
   `words`    a word or phrase of WORDS, which has the plain one beside it
   `long`     a sentence of over 40 words

@@ -1,8 +1,8 @@
 #!/usr/bin/env python3
 """Prints a hash of the sources of crates and of all crates below them: tests/source_hash.py CRATE ..
 
-What counts: the files in src, specs and proofs of each of these crates, without lines that are empty or comments alone,
-what a program stores in stdin and stdout, and their lines of crates.txt. The kit's version doesn't count.
+What counts: the files in src, specs and proofs of each of these crates, without comments and empty lines, what a program
+stores in stdin and stdout, and their lines of crates.txt. The kit's version doesn't count.
 
 The records of the archives (tests/archives) and of the page's module (playground/build) have this hash. With its edits
 added it is the hash of a folder of wrong bodies (tests/mutants/run).
@@ -14,7 +14,9 @@ import sys
 
 PARTS = ('src', 'specs', 'proofs')
 STORED = ('stdin', 'stdout')
-COMMENTS = {'.rt': b'//', '.antt': b'--'}
+# of each language a literal in quotes, which is kept, or else a comment
+COMMENTS = {'.rt': re.compile(rb'("(?:\\.|[^"\\])*"|\'(?:\\.|[^\'\\\n])\')|//[^\n]*', re.S),
+            '.antt': re.compile(rb'("(?:\\.|[^"\\\n])*")|(?<!\S)--[^\n]*')}
 FILE_NAME = re.compile(r'[\w-][\w.-]*')  # an editor's own files have other names
 CRATE_LINE = re.compile(r'^(\w+)([^:#\n]*):([^#\n]*)', re.M)
 
@@ -28,14 +30,19 @@ def add(digest, name, data):
     digest.update(f'{name}\0{len(data)}\0'.encode() + data)
 
 
+def code_of(path, data):
+    """Returns the bytes of a file without what its prover doesn't read: comments and empty lines."""
+    comments = COMMENTS.get(os.path.splitext(path)[1])
+    if not comments:
+        return data
+    lines = comments.sub(lambda found: found[1] or b'', data).splitlines()
+    return b''.join(line.rstrip() + b'\n' for line in lines if line.strip())
+
+
 def add_file(digest, root, path):
-    """Adds a file to a digest, without what its prover doesn't read: lines that are empty or comments alone."""
+    """Adds the code of a file to a digest."""
     with open(os.path.join(root, path), 'rb') as file:
-        comment = COMMENTS.get(os.path.splitext(path)[1])
-        lines = file.read().splitlines(keepends=True)
-    if comment:
-        lines = [line for line in lines if line.strip() and not line.lstrip().startswith(comment)]
-    add(digest, path, b''.join(lines))
+        add(digest, path, code_of(path, file.read()))
 
 
 class Sources:

@@ -87,13 +87,24 @@ def git(root, *words):
     return ended.stdout if ended.returncode == 0 else None
 
 
+def has_same_code(root, base, path):
+    """Returns true if the file differs from that of the commit `base` in comments alone, or not at all."""
+    then = git(root, 'show', f'{base}:{path}')
+    now = os.path.join(root, path)
+    if then is None or not os.path.exists(now):
+        return False
+    return source_hash.code_of(path, then.encode()) == source_hash.code_of(path, read(now).encode())
+
+
 def changed_since(root, base=None):
     """Returns the files of crates and of wrong bodies that differ from the commit `base`, uncommitted ones too, or None
-    if there is no such commit. Without one it is the merge base with origin/main. A file that was only moved is left
-    out."""
+    if there is no such commit. Without one it is the merge base with origin/main. A file that was only moved, or of
+    which only comments changed, is left out."""
     base = base or (git(root, 'merge-base', 'HEAD', 'origin/main') or '').strip()
     where = ['--', 'crates', 'tests/mutants']
     but_moved = ['--find-renames=100%', '--diff-filter=r']
     tracked = git(root, 'diff', '--name-only', *but_moved, '-z', base, *where) if base else None
     added = git(root, 'ls-files', '--others', '--exclude-standard', '-z', *where)
-    return None if tracked is None or added is None else (tracked + added).split('\0')
+    if tracked is None or added is None:
+        return None
+    return [path for path in (tracked + added).split('\0') if path and not has_same_code(root, base, path)]

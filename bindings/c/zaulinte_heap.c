@@ -1,6 +1,7 @@
-/* The two names by which the archives take memory, for programs without malloc: out of one array of ZAULINTE_ROOM bytes.
- * What was taken is free again once all of it is. NOT PROVED. A monitor of 64 places takes some 6 KB, a book some 3 KB.
- * It has no lock: one thread at a time makes and frees monitors and books (a monitor's other calls take no memory). */
+/* The two functions by which the archives allocate and free memory, for programs without malloc: from one array of
+ * ZAULINTE_ROOM bytes. A freed block can be allocated again only when all blocks are free. NOT PROVED. A monitor of 64
+ * places takes some 6 KB, a book some 3 KB. There is no lock: one thread at a time makes and frees monitors and books
+ * (the other calls of a monitor allocate nothing). */
 #include <stdbool.h>
 #include <stddef.h>
 

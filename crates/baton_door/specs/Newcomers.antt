@@ -12,7 +12,7 @@ module _ {D : Type 0} where
   abbrev pub IsOutside : SeatState D → Type 0
   IsOutside me = (k : ℕ) × IsEntering k me
 
-  -- the place of the seat me was admitted: its seat me' has the slot, with the contents x
+  -- me and me' are a seat before and after its place was admitted: in me' it has the slot, whose contents are x
   abbrev pub IsAdmitted : Rest D → Ready D → SeatState D → SeatState D → Type 0
   IsAdmitted rest ready me me' =
       (k : ℕ) (f : History D) → IsEmptyHanded k f me → (x : Guarded D)

@@ -4,7 +4,7 @@ use Rattle.hoare_law.specs.Sizes.{Kinds}
 use Rattle.hoare_law.specs.declared.event.Sizes.{Sizes}
 use Rattle.door_frame.specs.Places.{DoorId}
 
--- the id of a door (its table and places), and the numbers of its conditions
+-- the id of a door (its table and places), and how many conditions and Mesa conditions it has
 pub record StepId : Type 0 where
   pub door : DoorId
   pub kinds : Kinds

@@ -1,5 +1,5 @@
--- The contracts of the steps that other doors don't have: each relates the step, the seat before, the number found and
--- the seat after.
+-- The contracts of `Admit` and `Claim`, the steps that other doors don't have. Each relates the step, the seat before,
+-- the value of the word that the step found, and the seat after.
 use Rattle.std.specs.Prelude.{◌≡◌, ℕ, []}
 use Rattle.hoare_law.specs.declared.event.Event.{Event}
 use Rattle.hoare_law.specs.declared.event.History.{History}

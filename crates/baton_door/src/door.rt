@@ -1,4 +1,4 @@
-//! A door for running threads, its raw monitor, and the two steps that open a baton door.
+//! A door whose calls block, its raw monitor, and how a baton door is opened.
 ghost use Rattle.std.specs.Prelude.{◌≡◌, ◌<◌, []};
 ghost use Rattle.hoare_law.specs.Events.{opened};
 ghost use Rattle.hoare_law.specs.Sizes.{sizes_at};
@@ -20,11 +20,14 @@ use hoare_law::data::MonitorData;
 use std::marker::Model;
 use std::sync::atomic::AtomicBool;
 
-/// A monitor for running threads: it implements `Monitor`. Threads share it by reference, each with its own place.
+/// A monitor whose calls block the calling thread if they must: it implements `Monitor`. (The calls of a `StepDoor`
+/// never block.) Threads share it by reference, each with its own place.
 ///
-/// After `make` no call allocates. One state word says whether the monitor is free, held, or owed to a place; one slot
-/// has the data and the queues. A door can be dropped if its data can, and its data are then dropped too; `close`
-/// returns them.
+/// After `make` no call allocates. One state word says whether the monitor is free, held, or owed to a place, which
+/// alone may take it then. One slot keeps the data, and the queues of waiters and signallers. If the type of the data
+/// can be dropped, so can the door, and the data are dropped with it. `close` returns the data instead.
+///
+/// In the example the data are a `u64` with one condition, of which nothing is asked (`Unasked`).
 ///
 /// ```rust
 /// let data = Unasked::<u64, 1> { value: 41 };
@@ -44,8 +47,8 @@ pub struct RawBatonDoor<D: MonitorData> {
     pub(crate) table: DoorTable<D>,
     /// What wakes each place: that of place k is at index k.
     pub(crate) wakers: Vec<Waker>,
-    /// True if the next thread to enter is to yield first. Seldom written, so it shares a cache line with what is only
-    /// read.
+    /// True if the next thread to enter is to yield first. Threads seldom write it, so it may share a cache line with
+    /// `table` and `wakers`, which don't change after `make`.
     pub(crate) is_to_make_way: AtomicBool,
     /// The record of parked entering threads, on a cache line of its own.
     pub(crate) parked: CachePadded<Parked>,
@@ -64,8 +67,9 @@ impl<D: MonitorData> Model for RawBatonDoor<D> {
         d.table.shared.key (vec_len d.wakers) };
 }
 
-/// Opens the door of `table`: `seat`, its first seat, takes the empty slot, and puts it back with `parcel`. `seat` is
-/// then the seat of all places, and each knows that the door was opened with the data.
+/// Opens the door of `table`. `seat`, the first seat of the table, changes the state word to `HELD` and so gets the
+/// slot, which is still empty. It puts `parcel` into the slot, and stores `FREE`. `seat` is then the seat of all
+/// places. In the proofs the history of each place begins with the opening data.
 pub(crate) fn open<D: MonitorData, K: DoorKey<D>, J: PickedKinds>(
     table: &DoorTable<D, K>,
     seat: &mut DoorSeat<D>,

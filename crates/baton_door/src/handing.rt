@@ -1,6 +1,8 @@
-//! How the monitor of a `Door` is released: the releasing thread first writes the state word, then wakes the place that
-//! resumes. `door_frame::parking` argues why no wake-up is lost: what it calls the word of a place is here, for each
-//! place, the one state word.
+//! How the monitor of a `Door` is released. The releasing thread puts the parcel into the slot, then writes the state
+//! word. If a place resumes, the thread then wakes it.
+//!
+//! `door_frame::parking` argues for any door why no wake-up is lost. What it calls the word of a place is here the state
+//! word, which all places share.
 ghost use Rattle.std.specs.Prelude.{◌≡◌, ◌<◌};
 ghost use Rattle.wait_book.specs.Contents.{IsPlaceBelow};
 ghost use Rattle.wait_book.specs.declared.steps.Next.TheVariants.{For};
@@ -19,9 +21,12 @@ use hoare_law::data::MonitorData;
 use wait_book::steps::Next;
 
 impl<D: MonitorData> RawBatonDoor<D> {
-    /// Puts `parcel` back by an event that the call picks, and writes into the state word that `next` resumes. If that
-    /// is a place, wakes it and returns what shows that; else may help other threads, and returns `None`.
-    #[inline(always)] // a plain leave is short if it knows that nobody resumes
+    /// Puts `parcel` into the slot, and then stores the word of `next`. In the proofs the store adds the event
+    /// `J.event`, which the caller chooses, to the history.
+    ///
+    /// If `next` is a place that resumes, wakes it, and returns the evidence that it did. Else returns `None`, and
+    /// calls `help_others` before if `is_to_help` says so.
+    #[inline(always)] // where `next` is known to be free, the compiler drops the hand-off
     pub(crate) fn give<J: PickedEvent<D>>(
         &self,
         seat: &mut DoorSeat<D>,
@@ -83,7 +88,7 @@ impl<D: MonitorData> RawBatonDoor<D> {
     }
 
     /// Unparks `place`: ends its park, or lets its next park return at once. The caller has released the monitor.
-    /// Returns what shows that the place was woken.
+    /// Returns the evidence that the place was woken.
     fn wake(&self, seat: &DoorSeat<D>, place: usize) -> Woken
         requires below { place < self.now.places }
         requires given_up { HasReleased seat.now.me }

@@ -1,5 +1,5 @@
-//! How a thread enters if the monitor isn't free at once: it polls and attempts for a while, yields if yields are
-//! short, parks, and begins again.
+//! How a thread enters if the monitor isn't free at once. It polls and attempts for a while; it yields if another
+//! thread is parked and recent yields were short (`Parked::yield_if_short`); it parks; and it begins again.
 ghost use Rattle.std.specs.Prelude.{◌≡◌, true, false};
 ghost use Rattle.hoare_law.specs.declared.event.Event.TheVariants as event;
 ghost use Rattle.hoare_law.specs.Growth.{AddsLast};
@@ -21,16 +21,19 @@ use std::sync::Wait;
 use std::sync::atomic::Ordering;
 use std::{hint, thread};
 
-/// The number of polls of the state word before an attempt, a spin hint apart: half a microsecond. Meanwhile the thread
-/// occupies a core, which the thread that resumes may need.
+/// In one round a thread polls the state word at most this often, with a spin hint after each poll: half a microsecond.
+/// It attempts to enter only if it sees `FREE`. While it polls it occupies a core, which a thread that was just woken
+/// may need.
 const POLLS: u32 = 100;
 
-/// The number of rounds of polls and an attempt, each followed by a longer pause, before a thread yields and parks. If
-/// it tried these rounds again after each yield, four threads that enter and leave took 3 to 4 times as long.
+/// A thread makes this many rounds before it yields and parks. A round is some polls and at most one attempt, and the
+/// pause after it is longer than the one before. The row `enter_leave_4` of the measures took 3 to 4 times as long in a
+/// door whose threads repeated the rounds after a yield, instead of parking at once.
 const ROUNDS: u32 = 8;
 
 impl<D: MonitorData> RawBatonDoor<D> {
-    /// Polls the state word at most `polls` times, until (word == `FREE`) == `free`. Returns true if it was seen so.
+    /// Polls the state word at most `polls` times. Returns true as soon as it is `FREE` (if `free`), or isn't `FREE`
+    /// (if not `free`), else false.
     pub(crate) fn sees(&self, free: bool, polls: u32) -> bool {
         for _ in 0..polls {
             if (self.table.shared.peek(DOOR) == FREE) == free {
@@ -59,14 +62,15 @@ impl<D: MonitorData> RawBatonDoor<D> {
         false
     }
 
-    /// Yields, since the next thread to enter is to make way.
+    /// Clears `is_to_make_way`, and yields: the caller is the thread that is to make way.
     #[inline(never)] // apart, so that an enter stays small
     pub(crate) fn make_way(&self) {
         self.is_to_make_way.store(false, Ordering::Relaxed);
         thread::yield_now();
     }
 
-    /// Attempts to enter until the place is in. After each while of attempts it yields if yields are short, and parks.
+    /// Attempts to enter until the place is in. After each failed `try_a_while` the thread yields if another thread is
+    /// parked and recent yields were short, and then parks.
     #[inline(never)] // apart, so that an enter stays small
     fn keep_trying<R: Wait>(&self, rt: &R, seat: &mut DoorSeat<D>)
         requires table { seat.old.table_id ≡ self.now.table }
@@ -85,7 +89,7 @@ impl<D: MonitorData> RawBatonDoor<D> {
     }
 
     /// Enters, once an attempt succeeds.
-    #[inline] // else the place comes back through memory, which each visit clears
+    #[inline] // else the place is returned through memory, which each visit has to clear first
     pub(crate) fn enter_later<R: Wait>(&self, rt: &R, out: DoorOut<D>) -> DoorIn<D>
         requires { IsOut D.rest D.ready (kinds_of D.CONDITIONS D.MESA) self.now out }
         ensures of { IsIn D.rest D.ready (kinds_of D.CONDITIONS D.MESA) self.now result }

@@ -1,9 +1,8 @@
 //! Parking of entering threads, and their wake-up.
 //!
 //! An entering thread that has attempted for a while parks until it is woken, for at most `PARK_MICROS`; then it
-//! attempts again. Nothing promised depends on the wake-up. If none is sent, or another thread takes it, the thread
-//! sleeps for the rest of that time and no more: it is outside, holds nothing, and reads the state word itself when it
-//! wakes.
+//! attempts again. No contract depends on the wake-up. If none is sent, or another thread takes it, the thread sleeps
+//! for the rest of that time and no more: it is outside, holds nothing, and reads the state word itself when it wakes.
 //!
 //! A wake-up is a system call and takes longer than a visit: `leaving` decides when a thread sends one.
 use crossbeam_utils::CachePadded;
@@ -15,14 +14,14 @@ use std::time::Duration;
 /// The entering threads of a door that are parked. Performance only; not part of any contract.
 #[derive(Drop)]
 pub(crate) struct Parked {
-    /// The number of parked threads.
+    /// The number of registered threads: each is parked, about to park, or has just woken. All these are called parked.
     threads: AtomicU64,
-    /// The number of wake-ups sent, modulo 2^64. Entering threads park on this word.
+    /// The number of wake-ups sent, modulo 2^64. Entering threads park on its low 32 bits.
     wakes: AtomicU64,
-    /// What `wakes` was when a thread last stopped being parked. A late store may put back an older number: then threads
-    /// may make way without need.
+    /// What `wakes` was when a thread last deregistered. If two threads deregister at once, the one that loaded the
+    /// older number may store last: then a thread may make way without need.
     answered: AtomicU64,
-    /// What is known of yields.
+    /// Records if recent yields of this door's threads were long.
     yields: Yields,
 }
 
@@ -51,14 +50,14 @@ impl Parked {
         self.yields.count_park();
     }
 
-    /// Removes the caller.
+    /// Deregisters the caller, and notes that no wake-up sent so far is unanswered.
     pub(crate) fn deregister(&self) {
         self.threads.fetch_sub(1, Ordering::SeqCst);
         let wakes = self.wakes.load(Ordering::SeqCst);
         self.answered.store(wakes, Ordering::Relaxed);
     }
 
-    /// Yields if another thread is parked and no yield was long recently.
+    /// Yields if a thread is parked and recent yields were short (`Yields::try_yield`).
     pub(crate) fn yield_if_short(&self) {
         if !self.is_empty() {
             self.yields.try_yield();
@@ -81,7 +80,7 @@ impl Parked {
         self.wakes.wake_one();
     }
 
-    /// Returns true if a wake-up was sent and no thread has stopped being parked since.
+    /// Returns true if a wake-up was sent and no thread has deregistered since.
     pub(crate) fn has_unanswered_wake(&self) -> bool {
         self.wakes.load(Ordering::Relaxed) != self.answered.load(Ordering::Relaxed)
     }

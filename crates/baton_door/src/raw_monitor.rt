@@ -1,4 +1,4 @@
-//! The raw monitor of a baton door.
+//! The raw monitor of a `Door`: what it does with its words. `RunningMonitor` builds the calls of `Monitor` on it.
 ghost use Rattle.std.specs.Prelude.{◌≡◌, ◌<◌, ℕ, IfOk, IfErr, All};
 ghost use Rattle.hoare_law.specs.Priorities.{nobody};
 ghost use Rattle.hoare_law.specs.Sizes.{kinds_of};
@@ -56,7 +56,8 @@ impl<D: MonitorData> RawMonitor<D> for RawBatonDoor<D> {
         self.table.shared.peek(DOOR) == owed(place)
     }
 
-    /// Tries once to return. Returns `None` if the compare-exchange doesn't find the monitor owed to the place.
+    /// Takes the monitor for a place that waited or signalled, if it is owed to that place. Returns `None` if the
+    /// compare-exchange finds that it isn't.
     #[inline]
     fn try_claim(&self, seat: &mut DoorSeat<D>, place: usize) -> Option<Parcel<D>> {
         table_steps::try_claim(&self.table, seat, place)
@@ -106,8 +107,8 @@ impl<D: MonitorData> Runs<D> for RawBatonDoor<D> {
     ghost use Rattle.std.specs.Prelude.{refl};
 
     /// Enters. Yields first if a leaving thread asked for it. Then tries once to enter, as `try_enter` does, and keeps
-    /// trying if that fails. The first attempt isn't inside a function that may block: after a call to such a function
-    /// the compiler checks whether it returned.
+    /// trying if that fails. The first attempt is made here, since the compiler adds a test after each call of a
+    /// function that may block, which an entry at once shouldn't pay for.
     #[inline]
     fn enter<R: Wait>(&self, rt: &R, out: DoorOut<D>) -> DoorIn<D>
         requires { IsOut D.rest D.ready (kinds_of D.CONDITIONS D.MESA) self.now out }

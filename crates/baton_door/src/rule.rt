@@ -1,4 +1,4 @@
-//! The rule of the door's table, and what the door's own steps prove.
+//! What the words of a baton door mean (`BatonWords`), and what proofs learn from its steps `Admit` and `Claim`.
 ghost use Rattle.baton_door.specs.Rule.{Initial, WordsFit};
 ghost use Rattle.baton_door.specs.Steps.{admits, claims};
 
@@ -10,7 +10,8 @@ use door_frame::view::SeatView;
 use hoare_law::data::MonitorData;
 use hoare_law::event::Sizes;
 
-/// The key of a door's table: which of the door's sizes the table keeps.
+/// A constant value that a door's table stores, its key. From it proofs read the door's numbers of places and
+/// conditions.
 pub trait DoorKey<D> {
     ghost use Rattle.std.specs.Prelude.{ℕ};
     ghost use Rattle.hoare_law.specs.Sizes.{Kinds};
@@ -40,7 +41,8 @@ impl<D> DoorKey<D> for Sizes {
     ghost kinds = { λ s. kinds_of s.conditions s.mesa };
 }
 
-/// The meaning of the words of a baton door: the state word says whose turn it is.
+/// The meaning of the words of a baton door: the state word says that the monitor is free, that a place holds it, or to
+/// which place it is owed.
 pub struct BatonWords;
 
 impl<D, K: DoorKey<D>> Words<D, K> for BatonWords {
@@ -63,7 +65,7 @@ impl<D: MonitorData> Play<Option<Parcel<D>>, SeatView<D>> for Admit {
     ghost then = { admits D.rest D.ready };
 }
 
-/// The step by which a place returns if the monitor is owed to it.
+/// The step by which a place that waited or signalled gets inside again, if the monitor is owed to it.
 pub(crate) struct Claim;
 
 impl<D: MonitorData> Play<Option<Parcel<D>>, SeatView<D>> for Claim {

@@ -1,8 +1,8 @@
 //! A door whose calls are steps: no call blocks, and none wakes a thread.
 //!
-//! A call that releases the monitor returns which place resumes next. The caller wakes that place by means of its own,
-//! and the place then tries to return. The calls are those of `door_frame::calls`: `try_enter`, `leave_to`,
-//! `begin_wait`, `begin_signal`, `signal_leave_to`, `try_return`, `notify` and `broadcast`.
+//! A call that releases the monitor returns which place resumes next. The caller wakes the process of that place by its
+//! own means, and that process then calls `try_return` to get inside again. The calls are those of `door_frame::calls`:
+//! `try_enter`, `leave_to`, `begin_wait`, `begin_signal`, `signal_leave_to`, `try_return`, `notify` and `broadcast`.
 ghost use Rattle.std.specs.Prelude.{◌≡◌, ◌<◌, ◌≤◌, ◌⊎◌, ℕ, ⊤, IfOk, IfErr, Some, None, All};
 ghost use Rattle.hoare_law.specs.Events.{opened};
 ghost use Rattle.hoare_law.specs.Sizes.{kinds_of};
@@ -61,10 +61,13 @@ impl<D: MonitorData> Model for StepDoor<D> {
 }
 
 impl<D: MonitorData> StepDoor<D> {
-    /// Creates a door of 1 to 64 places and 1 to 8 conditions, opened with the data, and its places, in order. The last
-    /// `sizes.mesa` conditions are Mesa conditions; `D::CONDITIONS` and `D::MESA` are ignored. The caller must prove
-    /// `rest` of the data with nobody waiting. Refuses, in this order, with `BadPlaces`, `BadConditions` (also if
-    /// `mesa` is over `conditions`), and `Memory` if an allocation failed. Each refusal returns the data.
+    /// Creates a door that is opened with the data, and returns it with its places, in the order of their numbers. The
+    /// last `sizes.mesa` conditions are Mesa conditions; `D::CONDITIONS` and `D::MESA` are ignored. The caller must
+    /// prove `MonitorData::rest` of the data if no process waits.
+    ///
+    /// Returns the first of these refusals that applies, with the data: `BadPlaces` if the places aren't 1 to 64;
+    /// `BadConditions` if the conditions aren't 1 to 8, or `mesa` is over `conditions`; `Memory` if an allocation
+    /// failed.
     pub fn make(
         alloc: Global,
         state: D,
@@ -107,9 +110,11 @@ impl<D: MonitorData> StepDoor<D> {
         self.sizes
     }
 
-    /// Takes the door apart and returns the data. `outs` are all of its places, in any order. One legal and lawful
-    /// history left the data, at rest with nobody waiting. It begins with the front of each place (what the place
-    /// knows), and has no event of a place that isn't in the front of that place.
+    /// Takes the door apart and returns the data. `outs` are all of its places, in any order.
+    ///
+    /// There is a history of the door, legal and lawful (`hoare_law`), that ends with these data; at its end `rest`
+    /// holds, and no process waits. The front of each place (the history that it knows) is a beginning of this history,
+    /// and every event of the place in this history is also in its front.
     pub fn close(self, outs: Vec<Outside<D, ByCaller>>) -> D
         requires of { All (IsOut D.rest D.ready self.kinds self.door) outs.items }
         requires places { (k : ℕ) → k < self.door.places → HasPlace k outs.items }
@@ -120,8 +125,8 @@ impl<D: MonitorData> StepDoor<D> {
         closed_as::<D, Sizes, BatonWords, ByCaller, (), Brand>(table, (), outs)
     }
 
-    /// Puts `parcel` back by an event that the call picks, and writes into the state word that `next` resumes.
-    /// `departure` only serves that pick.
+    /// Puts `parcel` into the slot, and then stores the word of `next`. In the proofs the store adds the event
+    /// `J.event`, which the caller chooses, to the history; only they use `departure`.
     #[inline(always)] // as `table_steps::put_and_write` is
     fn give<J: PickedEvent<D>>(
         &self,
@@ -148,7 +153,7 @@ impl<D: MonitorData> RawMonitor<D> for StepDoor<D> {
 
     type Shown = ();
 
-    /// The door wakes no place, so what `release` returns shows nothing.
+    /// `release` returns no evidence of a wake-up, since this door wakes no place.
     ghost is_woken = { λ d next shown. ⊤ };
 
     fn polling(&self) -> Polling {

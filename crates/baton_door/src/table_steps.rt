@@ -57,8 +57,8 @@ pub(crate) fn try_admit<D: MonitorData, K: DoorKey<D>>(
     Some(take_parcel(table, seat))
 }
 
-/// Tries once to return, and takes the parcel. Returns `None`, with the seat unchanged, if the compare-exchange doesn't
-/// find the monitor owed to `place`.
+/// Tries once to get `place`, which waited or signalled, inside again, and takes the parcel. Returns `None`, with the
+/// seat unchanged, if the compare-exchange doesn't find the monitor owed to `place`.
 #[inline]
 pub(crate) fn try_claim<D: MonitorData, K: DoorKey<D>>(
     table: &DoorTable<D, K>,
@@ -85,9 +85,9 @@ pub(crate) fn try_claim<D: MonitorData, K: DoorKey<D>>(
     None
 }
 
-/// Puts `parcel` back by an event that the call picks, with `since_handed` in it, and then writes into the state word
-/// that `next` resumes.
-#[inline(always)] // a plain leave is short if it knows that nobody resumes
+/// Puts `parcel`, with `since_handed` in it, into the slot, and then stores the word of `next`. In the proofs the store
+/// adds the event `J.event`, which the caller chooses, to the history.
+#[inline(always)] // where `next` is known, so is the word
 pub(crate) fn put_and_write<D: MonitorData, K: DoorKey<D>, J: PickedEvent<D>>(
     table: &DoorTable<D, K>,
     seat: &mut DoorSeat<D>,
@@ -111,8 +111,8 @@ pub(crate) fn put_and_write<D: MonitorData, K: DoorKey<D>, J: PickedEvent<D>>(
         .store::<Give<J>>(seat, DOOR, word_of_next(next));
 }
 
-/// Adds an event that the call picks to the door's history, by one load of the state word. The loaded value isn't used.
-/// `parcel` and `notice` only serve that pick.
+/// Loads the state word once, and ignores the value. In the proofs this load is the moment at which the event
+/// `J.event`, which the caller chooses, is added to the history; only they use `parcel` and `notice`.
 #[inline]
 pub(crate) fn tell<D: MonitorData, K: DoorKey<D>, J: PickedNotice<D>>(
     table: &DoorTable<D, K>,

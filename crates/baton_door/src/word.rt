@@ -1,4 +1,4 @@
-//! The state word of a baton door: whose turn it is.
+//! The state word of a baton door: the monitor is free, held by a place, or owed to a place.
 ghost use Rattle.std.specs.Prelude.{◌≡◌, ◌<◌, ◌+◌};
 ghost use Rattle.wait_book.specs.Contents.{IsPlaceBelow};
 ghost use Rattle.baton_door.specs.Words.{word_of_next};

@@ -81,7 +81,8 @@ pub extern "C" fn zaulinte_door_collect(door: &mut HeldDoor) -> u64
 }
 
 /// Closes the door if all of its places are in hand, writes its word to `value`, and returns 0. Refused, in this order:
-/// 107 no door is held, 112 a place isn't in hand: it was given out, and not given back and collected.
+/// 107 no door is held, 112 a place isn't in hand (it was given out, and not given back and collected), or a
+/// `zaulinte_door_give_back` in another thread hasn't returned.
 #[unsafe(no_mangle)]
 pub extern "C" fn zaulinte_door_close(alloc: Global, door: &mut HeldDoor, value: &mut u64) -> u64
     ensures closed { door.old.live ≡ 1 → result ≡ 0

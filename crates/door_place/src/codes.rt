@@ -40,7 +40,8 @@ pub const BAD_CONDITIONS: u64 = 110;
 /// The code if an allocation failed.
 pub const NO_MEMORY: u64 = 111;
 
-/// The code if the door can't be closed: a place of it isn't in hand, or the call that gave a place back hasn't returned.
+/// The code if the door can't be closed: a place of it isn't in hand, or a call that gives a place back hasn't
+/// returned.
 pub const IN_USE: u64 = 112;
 
 /// The code if the place is not away: it neither waits nor has it signalled.

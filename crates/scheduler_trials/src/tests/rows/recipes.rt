@@ -23,7 +23,9 @@ use std::process::Abort;
 use std::rt::Clock;
 use std::sync::Wait;
 use std::sync::atomic::{AtomicU64, Ordering};
+use std::thread;
 use std::thread::Threads;
+use std::time::Duration;
 
 /// What the places of a row share besides the monitor: turns, and a count of what is done.
 #[derive(Drop)]
@@ -50,7 +52,11 @@ impl Row<Barrier> for Shared {
         m: &M,
         out: DoorOut<Barrier>,
         _place: usize,
-    ) -> (DoorOut<Barrier>, u64) {
+    ) -> (DoorOut<Barrier>, u64)
+        requires { M.is_of m.now out }
+        ensures of { M.is_of m.now result.0 }
+        ensures place { M.place result.0 ≡ M.place out }
+    {
         self.done.fetch_add(1, Ordering::SeqCst);
         let (out, first) = Barrier::arrive(m, rt, out);
         let begun = self.done.fetch_add(1, Ordering::SeqCst) / 4;
@@ -68,7 +74,11 @@ impl Row<Latch> for Shared {
         m: &M,
         out: DoorOut<Latch>,
         place: usize,
-    ) -> (DoorOut<Latch>, u64) {
+    ) -> (DoorOut<Latch>, u64)
+        requires { M.is_of m.now out }
+        ensures of { M.is_of m.now result.0 }
+        ensures place { M.place result.0 ≡ M.place out }
+    {
         if place < 3 {
             let out = Latch::pass(m, rt, out);
             return (out, self.done.load(Ordering::SeqCst));
@@ -88,7 +98,11 @@ impl Row<Drain> for Shared {
         m: &M,
         out: DoorOut<Drain>,
         place: usize,
-    ) -> (DoorOut<Drain>, u64) {
+    ) -> (DoorOut<Drain>, u64)
+        requires { M.is_of m.now out }
+        ensures of { M.is_of m.now result.0 }
+        ensures place { M.place result.0 ≡ M.place out }
+    {
         if place > 2 {
             self.turns.await_turn(rt, 3);
             let out = Drain::drain(m, rt, out);
@@ -143,7 +157,11 @@ impl Row<Mailbox> for Shared {
         m: &M,
         out: DoorOut<Mailbox>,
         place: usize,
-    ) -> (DoorOut<Mailbox>, u64) {
+    ) -> (DoorOut<Mailbox>, u64)
+        requires { M.is_of m.now out }
+        ensures of { M.is_of m.now result.0 }
+        ensures place { M.place result.0 ≡ M.place out }
+    {
         posts(rt, m, out, place)
     }
 }
@@ -156,7 +174,11 @@ impl Row<Rendezvous<u64>> for Shared {
         m: &M,
         out: DoorOut<Rendezvous<u64>>,
         place: usize,
-    ) -> (DoorOut<Rendezvous<u64>>, u64) {
+    ) -> (DoorOut<Rendezvous<u64>>, u64)
+        requires { M.is_of m.now out }
+        ensures of { M.is_of m.now result.0 }
+        ensures place { M.place result.0 ≡ M.place out }
+    {
         Rendezvous::meet(m, rt, out, place as u64)
     }
 }
@@ -170,7 +192,11 @@ impl Row<Table> for Shared {
         m: &M,
         out: DoorOut<Table>,
         place: usize,
-    ) -> (DoorOut<Table>, u64) {
+    ) -> (DoorOut<Table>, u64)
+        requires { M.is_of m.now out }
+        ensures of { M.is_of m.now result.0 }
+        ensures place { M.place result.0 ≡ M.place out }
+    {
         let seat = place % 5;
         let out = Table::sit_down(m, rt, out, seat);
         let others = self.done.fetch_add(1 << seat, Ordering::SeqCst);
@@ -202,8 +228,8 @@ fn puts<R: Wait + Abort, M: Monitor<WorkQueue>>(rt: &R, m: &M, out: M::Out) -> M
     out
 }
 
-// Takes jobs until there is none, and adds each to `done`.
-fn takes<R: Wait + Abort, M: Monitor<WorkQueue>>(
+// Takes jobs until there is none. Does each in a millisecond, and adds it to `done`.
+fn takes<R: Wait + Abort + Clock, M: Monitor<WorkQueue>>(
     rt: &R,
     m: &M,
     out: M::Out,
@@ -218,6 +244,7 @@ fn takes<R: Wait + Abort, M: Monitor<WorkQueue>>(
         let (again, job) = WorkQueue::take(m, rt, out);
         out = again;
         let Some(job) = job else { return out };
+        thread::sleep(rt, Duration::from_millis(1));
         done.fetch_add(job, Ordering::SeqCst);
     }
     panic!(rt; "there were sixteen jobs")
@@ -232,7 +259,11 @@ impl Row<WorkQueue> for Shared {
         m: &M,
         out: DoorOut<WorkQueue>,
         place: usize,
-    ) -> (DoorOut<WorkQueue>, u64) {
+    ) -> (DoorOut<WorkQueue>, u64)
+        requires { M.is_of m.now out }
+        ensures of { M.is_of m.now result.0 }
+        ensures place { M.place result.0 ≡ M.place out }
+    {
         if place > 0 {
             return (takes(rt, m, out, &self.done), 0);
         }

@@ -57,7 +57,9 @@
 #error "compile zaulinte_monitor.c as C"
 #endif
 #ifndef ZAULINTE_POLLS
-#define ZAULINTE_POLLS 500 /* hints for which a thread polls its place's bell, or the entrance, before it sleeps */
+/* Spin hints, at most: for all polls of a thread that waits to resume, before it sleeps; and for each single pause of an
+ * entering thread. */
+#define ZAULINTE_POLLS 500
 #endif
 #ifndef ZAULINTE_BACK_OFF
 #define ZAULINTE_BACK_OFF 128 /* hints for which a place lets others enter, after it got the monitor by a leave */

@@ -8,11 +8,12 @@ use Rattle.door_frame.specs.Seats.{IsEmptyHanded, IsEntering}
 use Rattle.door_frame.specs.Steps.{SeatState, EnteredBy}
 
 module _ {D : Type 0} where
-  -- the seat of a place that is outside
+  -- me is the seat of a place that is outside, of some number k
   abbrev pub IsOutside : SeatState D → Type 0
   IsOutside me = (k : ℕ) × IsEntering k me
 
-  -- me and me' are a seat before and after its place was admitted: in me' it has the slot, whose contents are x
+  -- me and me' are a seat before and after its place was admitted: in me' the seat has access to the slot, and x is in
+  -- the slot
   abbrev pub IsAdmitted : Rest D → Ready D → SeatState D → SeatState D → Type 0
   IsAdmitted rest ready me me' =
       (k : ℕ) (f : History D) → IsEmptyHanded k f me → (x : Guarded D)

@@ -1,5 +1,6 @@
--- The contracts of `Admit` and `Claim`, the steps that other doors don't have. Each relates the step, the seat before,
--- the value of the word that the step found, and the seat after.
+-- The contracts of `Admit` and `Claim`, the steps that other doors don't have. Each contract is a statement about four
+-- things: the step with the value that it expects, the seat before it, the value that it found in the state word, and
+-- the seat after it.
 use Rattle.std.specs.Prelude.{◌≡◌, ℕ, []}
 use Rattle.hoare_law.specs.declared.event.Event.{Event}
 use Rattle.hoare_law.specs.declared.event.History.{History}
@@ -9,8 +10,8 @@ use Rattle.door_frame.specs.Steps.{SeatState, StepContract, EntryStep, due}
 use Rattle.door_frame.specs.Views.{alone}
 
 module _ {D : Type 0} where
-  -- if the step found the expected number, the place k enters by the event and takes the slot; else the seat is
-  -- unchanged
+  -- if the step found the expected value, the place k enters, which adds the event to the history, and its seat then
+  -- has access to the slot; else the seat is unchanged
   abbrev pub ComesAt : ℕ → Rest D → Ready D → (ℕ → History D → D → Event D) → ℕ → History D → SeatState D → ℕ
       → SeatState D → Type 0
   ComesAt expected rest ready event k f = EntryStep rest ready (λ r. r ≡ expected) (λ log. Unit {0}) k f (event k f)

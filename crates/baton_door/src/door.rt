@@ -25,9 +25,10 @@ use std::sync::atomic::AtomicBool;
 ///
 /// After `make` no call allocates. One state word says whether the monitor is free, held, or owed to a place, which
 /// alone may take it then. One slot keeps the data, and the queues of waiters and signallers. If the type of the data
-/// can be dropped, so can the door, and the data are dropped with it. `close` returns the data instead.
+/// has `Drop`, so has the door, and the data are dropped with it. `close` returns the data instead.
 ///
-/// In the example the data are a `u64` with one condition, of which nothing is asked (`Unasked`).
+/// In the example the data are a `u64`, and there is one condition. `rest` and `ready` of an `Unasked` always hold, so
+/// the caller has nothing to prove.
 ///
 /// ```rust
 /// let data = Unasked::<u64, 1> { value: 41 };
@@ -48,7 +49,7 @@ pub struct RawBatonDoor<D: MonitorData> {
     /// What wakes each place: that of place k is at index k.
     pub(crate) wakers: Vec<Waker>,
     /// True if the next thread to enter is to yield first. Threads seldom write it, so it may share a cache line with
-    /// `table` and `wakers`, which don't change after `make`.
+    /// `table` and `wakers`: these have only pointers, which don't change after `make`, to words and slot on the heap.
     pub(crate) is_to_make_way: AtomicBool,
     /// The record of parked entering threads, on a cache line of its own.
     pub(crate) parked: CachePadded<Parked>,
@@ -67,9 +68,10 @@ impl<D: MonitorData> Model for RawBatonDoor<D> {
         d.table.shared.key (vec_len d.wakers) };
 }
 
-/// Opens the door of `table`. `seat`, the first seat of the table, changes the state word to `HELD` and so gets the
-/// slot, which is still empty. It puts `parcel` into the slot, and stores `FREE`. `seat` is then the seat of all
-/// places. In the proofs the history of each place begins with the opening data.
+/// Opens the door of `table` by a step with `seat`, the first seat of the table: changes the state word from `FREE` to
+/// `HELD`, which gives `seat` access to the slot, still empty; puts `parcel` into the slot; and stores `FREE`. `seat`
+/// then stands for all places together: `deal` makes the places from it. In the proofs the history of each place begins
+/// with the opening data.
 pub(crate) fn open<D: MonitorData, K: DoorKey<D>, J: PickedKinds>(
     table: &DoorTable<D, K>,
     seat: &mut DoorSeat<D>,

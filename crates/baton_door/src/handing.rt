@@ -1,8 +1,8 @@
 //! How the monitor of a `Door` is released. The releasing thread puts the parcel into the slot, then writes the state
 //! word. If a place resumes, the thread then wakes it.
 //!
-//! `door_frame::parking` argues for any door why no wake-up is lost. What it calls the word of a place is here the state
-//! word, which all places share.
+//! `door_frame::parking` argues for any door why no wake-up is lost. What it calls the word of a place is here the
+//! state word, which all places share.
 ghost use Rattle.std.specs.Prelude.{◌≡◌, ◌<◌};
 ghost use Rattle.wait_book.specs.Contents.{IsPlaceBelow};
 ghost use Rattle.wait_book.specs.declared.steps.Next.TheVariants.{For};
@@ -21,12 +21,12 @@ use hoare_law::data::MonitorData;
 use wait_book::steps::Next;
 
 impl<D: MonitorData> RawBatonDoor<D> {
-    /// Puts `parcel` into the slot, and then stores the word of `next`. In the proofs the store adds the event
-    /// `J.event`, which the caller chooses, to the history.
+    /// Puts `parcel` into the slot, and then stores `word_of_next(next)` in the state word. In the proofs the store
+    /// adds the event `J.event`, which the caller chooses, to the history.
     ///
-    /// If `next` is a place that resumes, wakes it, and returns the evidence that it did. Else returns `None`, and
-    /// calls `help_others` before if `is_to_help` says so.
-    #[inline(always)] // where `next` is known to be free, the compiler drops the hand-off
+    /// After the store: if `next` is a place that resumes, wakes that place, and returns a `Woken`, which shows that
+    /// the place was woken. Else calls `help_others`, if `is_to_help` says so, and then returns `None`.
+    #[inline(always)] // if the compiler can tell that `next` is `Next::Free`, it leaves out the call of `give_to`
     pub(crate) fn give<J: PickedEvent<D>>(
         &self,
         seat: &mut DoorSeat<D>,
@@ -65,7 +65,7 @@ impl<D: MonitorData> RawBatonDoor<D> {
     }
 
     /// Hands the monitor off to the place `resumed`, with `parcel` back in the slot, and wakes that place. `leaves` is
-    /// true if the place that hands off is outside then.
+    /// true if the place that hands off is outside afterwards: it leaves or passes, and doesn't wait or signal.
     #[inline(never)] // apart, so that a plain leave stays small
     fn give_to<J: PickedEvent<D>>(
         &self,
@@ -88,7 +88,7 @@ impl<D: MonitorData> RawBatonDoor<D> {
     }
 
     /// Unparks `place`: ends its park, or lets its next park return at once. The caller has released the monitor.
-    /// Returns the evidence that the place was woken.
+    /// Returns a `Woken`, which shows that the place was woken.
     fn wake(&self, seat: &DoorSeat<D>, place: usize) -> Woken
         requires below { place < self.now.places }
         requires given_up { HasReleased seat.now.me }

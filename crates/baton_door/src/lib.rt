@@ -1,5 +1,5 @@
-//! The baton doors, each with one state word and one slot: `Door`, whose threads park, and `StepDoor`, whose calls never
-//! block. The history of a door, its opening data and its events, is ghost: it exists only in proofs.
+//! The baton doors, each with one state word and one slot: `Door`, whose threads park, and `StepDoor`, whose calls
+//! never block. The history of a door, its opening data and its events, is ghost: it exists only in proofs.
 #![tactic(auto)]
 
 pub mod door;

@@ -21,19 +21,19 @@ use std::sync::Wait;
 use std::sync::atomic::Ordering;
 use std::{hint, thread};
 
-/// In one round a thread polls the state word at most this often, with a spin hint after each poll: half a microsecond.
-/// It attempts to enter only if it sees `FREE`. While it polls it occupies a core, which a thread that was just woken
-/// may need.
+/// In one round a thread polls the state word at most this many times, half a microsecond in all, with a spin hint
+/// after each poll. It attempts to enter only if it sees `FREE`. While it polls it occupies a core, which a thread
+/// that was just woken may need.
 const POLLS: u32 = 100;
 
-/// A thread makes this many rounds before it yields and parks. A round is some polls and at most one attempt, and the
-/// pause after it is longer than the one before. The row `enter_leave_4` of the measures took 3 to 4 times as long in a
-/// door whose threads repeated the rounds after a yield, instead of parking at once.
+/// A thread makes this many rounds before it yields and parks. A round is some polls and at most one attempt; the pause
+/// after it is twice as long as the one before, up to 64 spin hints. The row `enter_leave_4` of docs/MEASURES.md took 3
+/// to 4 times as long in a door whose threads repeated the rounds after a yield, instead of parking at once.
 const ROUNDS: u32 = 8;
 
 impl<D: MonitorData> RawBatonDoor<D> {
-    /// Polls the state word at most `polls` times. Returns true as soon as it is `FREE` (if `free`), or isn't `FREE`
-    /// (if not `free`), else false.
+    /// Polls the state word at most `polls` times. Returns true as soon as a poll finds what is asked for: `FREE` if
+    /// `free` is true, anything else if `free` is false. Returns false after `polls` polls.
     pub(crate) fn sees(&self, free: bool, polls: u32) -> bool {
         for _ in 0..polls {
             if (self.table.shared.peek(DOOR) == FREE) == free {
@@ -89,7 +89,7 @@ impl<D: MonitorData> RawBatonDoor<D> {
     }
 
     /// Enters, once an attempt succeeds.
-    #[inline] // else the place is returned through memory, which each visit has to clear first
+    #[inline] // else the place is returned through memory, which the code of each `enter` clears first
     pub(crate) fn enter_later<R: Wait>(&self, rt: &R, out: DoorOut<D>) -> DoorIn<D>
         requires { IsOut D.rest D.ready (kinds_of D.CONDITIONS D.MESA) self.now out }
         ensures of { IsIn D.rest D.ready (kinds_of D.CONDITIONS D.MESA) self.now result }

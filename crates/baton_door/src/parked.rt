@@ -36,7 +36,7 @@ impl Parked {
         })
     }
 
-    /// Registers the caller. Returns the number of wake-ups sent before.
+    /// Registers the caller, and then returns the number of wake-ups sent so far.
     pub(crate) fn register(&self) -> u64 {
         self.threads.fetch_add(1, Ordering::SeqCst);
         self.wakes.load(Ordering::SeqCst)

@@ -107,8 +107,8 @@ impl<D: MonitorData> Runs<D> for RawBatonDoor<D> {
     ghost use Rattle.std.specs.Prelude.{refl};
 
     /// Enters. Yields first if a leaving thread asked for it. Then tries once to enter, as `try_enter` does, and keeps
-    /// trying if that fails. The first attempt is made here, since the compiler adds a test after each call of a
-    /// function that may block, which an entry at once shouldn't pay for.
+    /// trying if that fails. The first attempt is made here and not in `enter_later`, which may block: after a call of
+    /// such a function the compiler tests if it returned. If the first attempt succeeds, no such test is made.
     #[inline]
     fn enter<R: Wait>(&self, rt: &R, out: DoorOut<D>) -> DoorIn<D>
         requires { IsOut D.rest D.ready (kinds_of D.CONDITIONS D.MESA) self.now out }

@@ -63,7 +63,7 @@ impl<D: MonitorData> Model for StepDoor<D> {
 impl<D: MonitorData> StepDoor<D> {
     /// Creates a door that is opened with the data, and returns it with its places, in the order of their numbers. The
     /// last `sizes.mesa` conditions are Mesa conditions; `D::CONDITIONS` and `D::MESA` are ignored. The caller must
-    /// prove `MonitorData::rest` of the data if no process waits.
+    /// prove that `MonitorData::rest` holds of the data and of empty queues, since no process waits yet.
     ///
     /// Returns the first of these refusals that applies, with the data: `BadPlaces` if the places aren't 1 to 64;
     /// `BadConditions` if the conditions aren't 1 to 8, or `mesa` is over `conditions`; `Memory` if an allocation
@@ -112,9 +112,10 @@ impl<D: MonitorData> StepDoor<D> {
 
     /// Takes the door apart and returns the data. `outs` are all of its places, in any order.
     ///
-    /// There is a history of the door, legal and lawful (`hoare_law`), that ends with these data; at its end `rest`
-    /// holds, and no process waits. The front of each place (the history that it knows) is a beginning of this history,
-    /// and every event of the place in this history is also in its front.
+    /// There is a history of the door whose last data are the returned ones. It is legal and lawful
+    /// (docs/DEFINITIONS.md): each event is allowed, and `rest` and `ready` hold when they must. At its end `rest`
+    /// holds, and no process waits. The front of each place (the history that the place knows) is a prefix of it, and
+    /// has all events of the place.
     pub fn close(self, outs: Vec<Outside<D, ByCaller>>) -> D
         requires of { All (IsOut D.rest D.ready self.kinds self.door) outs.items }
         requires places { (k : ℕ) → k < self.door.places → HasPlace k outs.items }
@@ -125,8 +126,8 @@ impl<D: MonitorData> StepDoor<D> {
         closed_as::<D, Sizes, BatonWords, ByCaller, (), Brand>(table, (), outs)
     }
 
-    /// Puts `parcel` into the slot, and then stores the word of `next`. In the proofs the store adds the event
-    /// `J.event`, which the caller chooses, to the history; only they use `departure`.
+    /// Puts `parcel` into the slot, and then stores `word_of_next(next)` in the state word. Only the proofs use
+    /// `departure`: in them the store adds the event `J.event`, which the caller chooses, to the history.
     #[inline(always)] // as `table_steps::put_and_write` is
     fn give<J: PickedEvent<D>>(
         &self,

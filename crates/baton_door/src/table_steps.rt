@@ -85,9 +85,9 @@ pub(crate) fn try_claim<D: MonitorData, K: DoorKey<D>>(
     None
 }
 
-/// Puts `parcel`, with `since_handed` in it, into the slot, and then stores the word of `next`. In the proofs the store
-/// adds the event `J.event`, which the caller chooses, to the history.
-#[inline(always)] // where `next` is known, so is the word
+/// Puts `parcel`, with `since_handed` in it, into the slot, and then stores `word_of_next(next)` in the state word. In
+/// the proofs the store adds the event `J.event`, which the caller chooses, to the history.
+#[inline(always)] // if the compiler knows `next`, it computes the word
 pub(crate) fn put_and_write<D: MonitorData, K: DoorKey<D>, J: PickedEvent<D>>(
     table: &DoorTable<D, K>,
     seat: &mut DoorSeat<D>,
@@ -111,8 +111,8 @@ pub(crate) fn put_and_write<D: MonitorData, K: DoorKey<D>, J: PickedEvent<D>>(
         .store::<Give<J>>(seat, DOOR, word_of_next(next));
 }
 
-/// Loads the state word once, and ignores the value. In the proofs this load is the moment at which the event
-/// `J.event`, which the caller chooses, is added to the history; only they use `parcel` and `notice`.
+/// Loads the state word once, and ignores the value. Only the proofs use `parcel` and `notice`: in them this load adds
+/// the event `J.event`, which the caller chooses, to the history.
 #[inline]
 pub(crate) fn tell<D: MonitorData, K: DoorKey<D>, J: PickedNotice<D>>(
     table: &DoorTable<D, K>,

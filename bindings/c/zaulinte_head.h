@@ -6,7 +6,7 @@
  * PROVED: each function meets its contract in crates/head_c/src/lib.rt, for any number: its result, all that it writes,
  * and that a refusal changes nothing. The laws in crates/head_c/src/laws.rt hold if the monitor resumes the waiter of
  * least priority, of equal ones the longest waiting. Then each waiter finds the drive out and its cylinder ahead of the
- * head in its sweep, and the number of grants that go before it is bounded.
+ * head in its sweep, or under it, and the number of grants that go before it is bounded.
  * Not proved: this header. The caller owes the following, and nothing checks it:
  *  - `head` points to a head that was all zero at first and that these functions alone wrote; `condition` and
  *    `priority` point to a word of the caller's, and no two of the three overlap;

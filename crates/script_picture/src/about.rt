@@ -45,7 +45,8 @@ fn write_contents<W: Write>(writer: &mut W, frame: &Frame, chart: &Chart) -> io:
     let rows = frame.shown.among(chart.rows.as_slice());
     let overs = count_overs(rows);
     let refusals = count_refusals(rows);
-    let comes_in = ", one for each place that comes in, with ";
+    let notified = "notification";
+    let not_idle = ", one for each place that isn't idle, with ";
     write_counted(
         writer,
         "<desc id=\"about\">A chart of ",
@@ -53,9 +54,9 @@ fn write_contents<W: Write>(writer: &mut W, frame: &Frame, chart: &Chart) -> io:
         "row",
     )?;
     write_counted(writer, ", one for each step, and ", lanes, "lane")?;
-    write_counted(writer, comes_in, overs, "hand-over")?;
+    write_counted(writer, not_idle, overs, "hand-off")?;
     if chart.header.mesa > 0 {
-        write_counted(writer, ", ", count_calls(frame.shown, chart), "call")?;
+        write_counted(writer, ", ", count_calls(frame.shown, chart), notified)?;
     }
     write_counted(writer, " and ", refusals, "refusal")?;
     writer.write_all(b".</desc>\n")

@@ -135,8 +135,8 @@ fn height_of(rows: u64) -> u64 {
 }
 
 impl Frame {
-    /// Returns the top of a row of the script. A row before the first shown row has the top of that row. A row after the
-    /// last shown row has the bottom of that row.
+    /// Returns the top of a row of the script. A row before the first shown row has the top of that row. A row after
+    /// the last shown row has the bottom of that row.
     pub fn row_top(&self, row: u64) -> u64 {
         height_of(row.saturating_sub(self.shown.before).min(self.shown.count))
     }

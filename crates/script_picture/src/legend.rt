@@ -39,7 +39,7 @@ fn write_boxes<W: Write>(writer: &mut W, first: u64) -> io::Result<()> {
 
 // Writes what an arrow means, for both of them.
 fn write_arrows<W: Write>(writer: &mut W, first: u64) -> io::Result<()> {
-    let arrows = [(false, "a waiter goes on"), (true, "a signaller returns")];
+    let arrows = [(false, "a waiter resumes"), (true, "a signaller returns")];
     let mut top = first;
     for (returns, note) in arrows {
         let arrow = Arrow {
@@ -65,7 +65,7 @@ fn write_call<W: Write>(writer: &mut W, top: u64) -> io::Result<()> {
     };
     write_call_arrow(writer, 350, 404, top.saturating_add(11))?;
     write_box(writer, Lane::Called(0, 0, 1), area)?;
-    write_note(writer, 482, top, "is called; 1 goes on first")
+    write_note(writer, 482, top, "notified; 1 resumes first")
 }
 
 fn write_note<W: Write>(writer: &mut W, x: u64, top: u64, note: &str) -> io::Result<()> {

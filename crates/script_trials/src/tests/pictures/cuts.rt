@@ -23,12 +23,12 @@ fn has_times<R: Abort>(rt: &R, picture: &[u8], parts: &[(&str, usize)]) {
     }
 }
 
-// What is once in the picture of steps 3 and 4: the wait of place 0 began before, and ends with step 3. The two rows end
-// at 64 + 56 = 120, and the page at 224.
+// Parts that occur once in the picture of steps 3 and 4. The wait of place 0 began before, and ends with step 3. The
+// two rows end at 64 + 56 = 120, and the page at 224.
 const MIDDLE: &[&str] = &[
     "<svg xmlns=\"http://www.w3.org/2000/svg\" width=\"560\" height=\"224\" viewBox=\"0 0 560 224\" role=\"img\"",
     ">A monitor with 2 places and 1 condition, steps 3 to 4 of 6</title>",
-    ">A chart of 2 rows, one for each step, and 2 lanes, one for each place that comes in, with 1 hand-over and \
+    ">A chart of 2 rows, one for each step, and 2 lanes, one for each place that isn't idle, with 1 hand-off and \
         0 refusals.</desc>",
     "<rect class=\"band\" x=\"8\" y=\"64\" width=\"544\" height=\"28\" rx=\"4\"/>\n\
         <text class=\"step\" x=\"20\" y=\"82\">enter 1</text>\n\
@@ -112,7 +112,7 @@ fn no_row_beyond_the_end(rt: HostRuntime) {
         let parts = [
             " height=\"168\" viewBox=",
             ", no step of 6</title>",
-            "with 0 hand-overs and 0 refusals",
+            "with 0 hand-offs and 0 refusals",
             "(2 idle)",
         ];
         stand_once(&rt, text.as_slice(), &parts);
@@ -143,7 +143,7 @@ fn notifications_of_the_shown_steps(rt: HostRuntime) {
     let third = "<rect class=\"called\" x=\"148\" y=\"67\" width=\"84\" height=\"22\" rx=\"4\"/>\n\
         <text class=\"dark\" x=\"190\" y=\"82\">called 3</text>";
     let parts = [
-        " with 0 hand-overs, 3 calls and 0 refusals.</desc>",
+        " with 0 hand-offs, 3 notifications and 0 refusals.</desc>",
         "<path class=\"arrow call\" d=\"M532 78H240\"/>",
         "<path class=\"arrow call\" d=\"M532 78H368\"/>",
         "<path class=\"arrow call\" d=\"M532 78H496\"/>",
@@ -154,7 +154,7 @@ fn notifications_of_the_shown_steps(rt: HostRuntime) {
     stand_once(
         &rt,
         text.as_slice(),
-        &[", 0 calls and 2 refusals.</desc>", third],
+        &[", 0 notifications and 2 refusals.</desc>", third],
     );
     has_times(&rt, text.as_slice(), &[("class=\"arrow call\"", 1)]);
 }

@@ -13,8 +13,8 @@ const HAND_OVER_DRAWN: &[u8] =
     b"<svg xmlns=\"http://www.w3.org/2000/svg\" width=\"560\" height=\"336\" viewBox=\"0 0 560 336\" role=\"img\" \
         aria-labelledby=\"title\" aria-describedby=\"about\">
 <title id=\"title\">A monitor with 2 places and 1 condition, in a script of 6 steps</title>
-<desc id=\"about\">A chart of 6 rows, one for each step, and 2 lanes, one for each place that comes in, with 2 \
-    hand-overs and 0 refusals.</desc>
+<desc id=\"about\">A chart of 6 rows, one for each step, and 2 lanes, one for each place that isn't idle, with 2 \
+    hand-offs and 0 refusals.</desc>
 <style>
 text{font-family:ui-monospace,Menlo,Consolas,'DejaVu Sans Mono',monospace;font-size:13px;fill:#1f2328}
 .page{fill:#fff;stroke:#d0d7de}.band{fill:#f6f8fa}.lane{stroke:#8c959f;stroke-dasharray:2 4}
@@ -69,7 +69,7 @@ text{font-family:ui-monospace,Menlo,Consolas,'DejaVu Sans Mono',monospace;font-s
 <text class=\"dark\" x=\"54\" y=\"317\">signals</text>
 <text class=\"note\" x=\"98\" y=\"317\">signalled, waits to return</text>
 <path class=\"edge\" d=\"M354 261H386\"/><path class=\"arrow\" d=\"M350 261H386\"/><path d=\"M394 261l-9-5v10z\"/>
-<text class=\"note\" x=\"404\" y=\"265\">a waiter goes on</text>
+<text class=\"note\" x=\"404\" y=\"265\">a waiter resumes</text>
 <path class=\"edge\" d=\"M354 287H386\"/><path class=\"arrow back\" d=\"M350 287H386\"/><path d=\"M394 287l-9-5v10z\"/>
 <text class=\"note\" x=\"404\" y=\"291\">a signaller returns</text>
 </svg>
@@ -86,7 +86,7 @@ const IDLE_LANES: &[&str] = &[
     // the picture, and its name
     "<svg xmlns=\"http://www.w3.org/2000/svg\" width=\"932\" height=\"392\" viewBox=\"0 0 932 392\" role=\"img\"",
     ">A monitor with 14 places and 1 condition, in a script of 8 steps</title>",
-    ">A chart of 8 rows, one for each step, and 2 lanes, one for each place that comes in, with 3 hand-overs and \
+    ">A chart of 8 rows, one for each step, and 2 lanes, one for each place that isn't idle, with 3 hand-offs and \
         1 refusal.</desc>",
     // the lanes that are left out, and the two that are drawn
     "<text class=\"note\" x=\"616\" y=\"42\">(12 idle)</text>",
@@ -137,7 +137,7 @@ fn wide_and_idle_lanes_as_svg(rt: HostRuntime) {
 const CALLS: &[&str] = &[
     "<svg xmlns=\"http://www.w3.org/2000/svg\" width=\"1044\" height=\"616\" viewBox=\"0 0 1044 616\" role=\"img\"",
     ">A monitor with 5 places and 1 condition (1 Mesa), in a script of 16 steps</title>",
-    " and 5 lanes, one for each place that comes in, with 3 hand-overs, 3 calls and 2 refusals.</desc>",
+    " and 5 lanes, one for each place that isn't idle, with 3 hand-offs, 3 notifications and 2 refusals.</desc>",
     "<text class=\"title\" x=\"20\" y=\"42\">monitor 5 1 1</text>",
     "<path class=\"arrow call\" d=\"M532 274H240\"/><path class=\"tip\" d=\"M232 274l9-5v10z\"/>",
     "<path class=\"arrow call\" d=\"M532 274H368\"/><path class=\"tip\" d=\"M360 274l9-5v10z\"/>",
@@ -160,7 +160,7 @@ const CALLS: &[&str] = &[
     "<path class=\"arrow call\" d=\"M350 593H396\"/><path class=\"tip\" d=\"M404 593l-9-5v10z\"/>",
     "<rect class=\"called\" x=\"404\" y=\"582\" width=\"68\" height=\"22\" rx=\"4\"/>\n\
         <text class=\"dark\" x=\"438\" y=\"597\">called 1</text>",
-    "<text class=\"note\" x=\"482\" y=\"597\">is called; 1 goes on first</text>",
+    "<text class=\"note\" x=\"482\" y=\"597\">notified; 1 resumes first</text>",
 ];
 
 // The longest step has 13 letters, and `called 3` has 8, so that a box of the first three lanes is 9 * 8 + 12 = 84

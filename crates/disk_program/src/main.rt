@@ -22,25 +22,22 @@ use std::sync::Wait;
 use std::thread::Threads;
 use std::{env, io};
 
+// Reads ahead, so that a byte isn't a system call, and prints the line of a fault on standard error.
 fn main(rt: HostRuntime) -> ExitCode {
-    match asked_kind(&rt) {
-        Ok(kind) => serve_input(&rt, kind),
-        Err(no_report) => report(&rt, Err(no_report)),
-    }
-}
-
-// Serves standard input, and prints the line of a fault on standard error.
-fn serve_input(rt: &HostRuntime, kind: Kind) -> ExitCode {
+    let kind = match asked_kind(&rt) {
+        Ok(kind) => kind,
+        Err(no_report) => return report(&rt, Err(no_report)),
+    };
     let Ok(ahead) = BufReader::with_capacity(rt.alloc(), 65_536, rt.stdin()) else {
-        return report(rt, Err(NoReport::Fault(ServiceFault::Memory)));
+        return report(&rt, Err(NoReport::Fault(ServiceFault::Memory)));
     };
     let mut reader = LineKeeper::new(ahead);
-    let end = serve_streams(rt, rt.alloc(), kind, &mut reader, rt.stdout());
-    let code = report(rt, end.map_err(NoReport::Fault));
+    let end = serve_streams(&rt, rt.alloc(), kind, &mut reader, rt.stdout());
+    let code = report(&rt, end.map_err(NoReport::Fault));
     if let Err(fault) = end
         && let Some(expected) = fault.expected()
     {
-        explain(rt, reader.last_line(), expected);
+        explain(&rt, reader.last_line(), expected);
     }
     code
 }

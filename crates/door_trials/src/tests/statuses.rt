@@ -23,8 +23,9 @@ use test_support::tally::Tally;
 use ticket_door::door::TicketDoor;
 use ticket_door::place::TicketOut;
 
-/// Number of hand-offs to a place. In at least one of them the status must be seen before the place resumes.
-const ROUNDS: u64 = 20;
+/// Number of hand-offs to a place. In at least one of them the status must be seen before the place resumes. On busy
+/// cores the woken place mostly resumes first, so there are many.
+const ROUNDS: u64 = 200;
 
 /// How long the place waits before each hand-off, in milliseconds. By then it sleeps.
 const STAY: u64 = 3;

@@ -40,7 +40,7 @@ pub record TakesMostUrgent (letters : List Letter) (x : Letter) (others : List L
   pub less_before : All (λ y. x.priority < y.priority) before
   pub none_more_after : All (λ y. x.priority ≤ y.priority) after
 
--- ready implies what always holds
+-- ready implies the invariant
 pub within_of_ready : (c count : ℕ) (senders readers : List ℕ) → MailReady c count senders readers → count ≤ 8
 within_of_ready zero count senders readers h = h.within
 within_of_ready (suc c) count senders readers h = h.within

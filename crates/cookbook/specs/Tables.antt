@@ -31,7 +31,7 @@ seated t k = slice_set t k true
 abbrev pub risen : List Bool → ℕ → List Bool
 risen t k = slice_set t k false
 
--- what always holds: no two neighbours eat
+-- the invariant: no two neighbours eat
 pub record TableHolds (t : List Bool) : Type 0 where
   pub seats : length t ≡ 5
   pub apart : (k : ℕ) → k < 5 → IsEating t k → slice_index_or t (right_of k) false ≡ false

@@ -40,7 +40,7 @@ pub record IsOver (s : Workload) : Type 0 where
   pub none_left : length s.jobs ≡ 0
   pub all_gone : s.workers ≡ 0
 
--- what always holds: there are no more jobs than there is room for; and every worker has gone only if the queue was
+-- the invariant: there are no more jobs than there is room for; and every worker has gone only if the queue was
 -- shut down and no job was left, so that each job that was put in was taken
 pub record WorkHolds (s : Workload) : Type 0 where
   pub within : length s.jobs ≤ 8

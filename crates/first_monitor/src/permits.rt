@@ -58,7 +58,7 @@ impl MonitorData for Permits {
 
     ghost MESA = { 0 };
 
-    // Always: no more permits are free than there are.
+    // At each wait and leave, and when a waiter is resumed: no more permits are free than there are.
     ghost inv = { λ s. s.free ≤ s.total };
 
     // At each wait and leave: if a process waits it has a cause, namely that no permit is free.

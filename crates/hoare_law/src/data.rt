@@ -1,5 +1,5 @@
-//! A monitor's data, with the assertions of its author: what always holds, what holds at rest, and what a resumed
-//! process finds.
+//! A monitor's data, with the assertions of its author: the invariant, what holds at rest, and what a resumed process
+//! finds.
 ghost use Rattle.std.specs.Prelude.{◌≡◌, ◌<◌, ◌↔◌, ℕ, List, IsTrue};
 
 use crate::waits::Waits;
@@ -26,7 +26,8 @@ pub trait MonitorData {
     /// Ghost copy of the constant `MESA`, for contracts.
     ghost MESA: { ℕ };
 
-    /// The invariant: what always holds of the data.
+    /// The invariant: what holds of the data at each wait, at each leave, and when a signal resumes a waiter, since
+    /// `rest` and `ready` imply it.
     ghost inv: { Self → Type 0 };
 
     /// What holds of the data and the waiting priorities at each wait and each leave.

@@ -47,8 +47,8 @@ impl ScriptFault {
         }
     }
 
-    /// Returns what was expected instead, to show it beside `line`, the line at fault. Returns `None` if a read, a write
-    /// or memory failed: then no line is at fault.
+    /// Returns what was expected instead, to show it beside `line`, the line at fault. Returns `None` if a read, a
+    /// write or memory failed: then no line is at fault.
     pub fn expected(&self, line: &[u8]) -> Option<&'static str>
         ensures { IsNone result ↔ (status_of self.now ≡ 3) }
     {

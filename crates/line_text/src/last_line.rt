@@ -9,8 +9,8 @@ use std::{env, fmt, io};
 /// The environment variable by which a program is asked to explain a fault.
 const EXPLAINS: &str = "ZAULINTE_EXPLAIN";
 
-/// A line: its number, from 1, and its first 80 bytes. As a text it is the number, a bar and these bytes; a byte that is
-/// no printable ASCII is written as in a Rust string.
+/// A line: its number, from 1, and its first 80 bytes. As a text it is the number, a bar and these bytes; a byte that
+/// is no printable ASCII is written as in a Rust string.
 #[derive(Drop)]
 pub struct LastLine {
     number: u64,

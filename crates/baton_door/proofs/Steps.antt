@@ -60,7 +60,7 @@ module _ {D : Type 0} where
     no_tokens = λ k. refl;
   }
 
-  -- the words fit the history h once the state word is set to the one for the turn after h
+  -- the words fit the history h if the state word is set to that of the turn after h
   rewritten : (f h : History D) (tokens : Tokens) (ws : List ℕ) (w : ℕ) → word_of (turn h.events) ≡ w
       → WordsFit f tokens ws
       → WordsFit h tokens (set ws 0 w)

@@ -42,8 +42,8 @@ pub record Tells (h : History (Unit {0})) (code : ℕ) : Type 0 where
   pub is : code ≡ code_of (next_of (turn h.events))
   pub below : IsPlaceBelow 64 (next_of (turn h.events))
 
--- what a step made of a book of history h, and its code. Either it was done, and the code is the place that is inside
--- then. Or it was refused: the code is the refusal's, and the book is still of its history
+-- what a step made of a book of history h, and its code. Either it was done, and the code is that of the turn then. Or
+-- it was refused: the code is the refusal's, and the book is still of its history
 pub data Stepped (h : History (Unit {0})) (step : Step) (new : Contents) (code : ℕ) : Type 0 where
   done : refusal_of h step ≡ None → IsOf new (after_step h step) → Tells (after_step h step) code
       → Stepped h step new code
@@ -67,7 +67,7 @@ LacksBook live old new code = live ≡ 0 → (code ≡ 107) × (new ≡ old)
 abbrev pub outside_code : History (Unit {0}) → ℕ → ℕ
 outside_code h k = if nat_lt k h.sizes.places then (if outside k h.events then 1 else 0) else 101
 
--- 1 if there is one, else 0
+-- 1 if there is a value, else 0
 abbrev pub some_code : {X : Type 0} → Option X → ℕ
 some_code None = 0
 some_code (Some x) = 1
@@ -80,7 +80,7 @@ abbrev pub priority_or : Option (Event (Unit {0})) → ℕ → ℕ
 priority_or None kept = kept
 priority_or (Some e) kept = priority_of e
 
--- the priority of the place that a signal would resume, or the former value if there is none
+-- the priority of the place that a signal would resume, or the former value if there is no such place or condition
 abbrev pub first_or : History (Unit {0}) → ℕ → ℕ → ℕ
 first_or h c kept = if nat_lt c h.sizes.conditions then priority_or (chosen c h.events) kept else kept
 

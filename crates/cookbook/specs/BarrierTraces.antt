@@ -7,8 +7,9 @@ use Rattle.cookbook.specs.declared.barrier.Arrival.{Arrival}
 use Rattle.cookbook.specs.declared.barrier.Arrival.TheVariants.{Last, Waited}
 use Rattle.cookbook.specs.Barriers.{Gathering, next, one_more, one_less, opened}
 
--- either k found all others waiting, began the next generation, and resumed a waiter; or k waited, resumed in the next
--- generation, and resumed one more waiter. The result gives the generation that k found, and if k came last or waited
+-- either k found all others waiting and began the next generation, or k waited and resumed in the next generation. In
+-- both cases it then resumed the next waiter if there was one. The result has the generation that k found: it is `Last`
+-- if k came last, else `Waited`
 pub data Arrives (k : ℕ) (f h : History Gathering) : Arrival → Type 0 where
   came_last : (a : Gathering) (g : History Gathering) → AddsLast f (Admit k a) g → a.arrived + 1 ≡ a.parties
       → Finishes k 0 (opened a) g h → Arrives k f h (Last a.generation)

@@ -1,5 +1,5 @@
--- What holds of the philosophers' table and of its waiters. The data has for each of the five seats if its philosopher
--- eats; condition k is "the philosopher at seat k can eat".
+-- What holds of the philosophers' table and of its waiters. The data are five truth values: for each seat, true if its
+-- philosopher eats. Condition k is "the philosopher at seat k can eat".
 use Rattle.std.specs.Prelude.{ℕ, List, [], length, replicate, slice_index_or, slice_set, Bool, true, false, ◌≡◌, ◌≢◌}
 use Rattle.std.specs.Prelude.{◌<◌, ◌+◌, ◌%◌}
 

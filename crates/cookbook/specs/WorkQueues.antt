@@ -3,7 +3,7 @@
 -- for 8 jobs.
 use Rattle.std.specs.Prelude.{ℕ, List, [], ◌∷◌, ◌++◌, length, Bool, true, false, ◌≡◌, ◌≢◌, ◌<◌, ◌≤◌, ◌-◌}
 
--- the jobs that no worker has taken, the oldest first; if the queue was shut down; how many workers have not gone
+-- the jobs that no worker has taken, the oldest first; true if the queue was shut down; how many workers have not gone
 pub record Workload : Type 0 where
   pub jobs : List ℕ
   pub closed : Bool
@@ -46,7 +46,7 @@ pub record WorkHolds (s : Workload) : Type 0 where
   pub within : length s.jobs ≤ 8
   pub done : s.workers ≡ 0 → IsOver s
 
--- at each wait and each leave: if a process waits in a shut-down (a closer), the queue is shut and a worker has not
+-- at each wait and each leave: if a process waits in a shut-down (a closer), the queue is shut and some worker has not
 -- gone; and if the queue is shut, no worker waits for a job (idle). So a shut-down has to notify all waiting workers.
 -- That a worker waits while there is a job is allowed: the job may be for a notified worker that has not resumed yet
 pub record WorkRests (s : Workload) (closers idle : List ℕ) : Type 0 where
@@ -55,8 +55,8 @@ pub record WorkRests (s : Workload) (closers idle : List ℕ) : Type 0 where
   pub still_in : closers ≢ [] → 0 < s.workers
   pub sent_home : s.closed ≡ true → length idle ≡ 0
 
--- a closer that is resumed finds that all work is over and that no worker waits. A worker that waited for a job finds
--- no more than rest, and tests again
+-- a closer that is resumed finds that all work is over and that no worker waits. A worker that resumes after a wait for
+-- a job is promised only what holds at each wait and each leave, so it tests again
 pub record WorkReady (s : Workload) (idle : List ℕ) : Type 0 where
   pub inv : WorkHolds s
   pub over : IsOver s

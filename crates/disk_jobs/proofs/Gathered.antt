@@ -25,7 +25,7 @@ served_from-at i zero (c ∷ cs) d h = ap (λ v. served v c) (omega arith)
 served_from-at i (suc k) (c ∷ cs) d h =
     served_from-at (suc i) k cs d (omega arith) ∙ ap (λ v. served v (get_or cs k 0)) (omega arith)
 
--- the cylinder of each job is the one that its number says
+-- the cylinder of a job is what f gives for its number
 abbrev HasCylinder : (ℕ → ℕ) → Served → Type 0
 HasCylinder f d = d.cylinder ≡ f d.job
 

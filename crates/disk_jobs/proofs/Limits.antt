@@ -16,7 +16,7 @@ unfolding refusal_of
 refusal_of-none j h =
     record { some = grind (arith, nat_tests); few = grind (arith, nat_tests); room = grind (arith, nat_tests) }
 
--- what follows if a test lets the jobs through
+-- if the result of a test is `Ok`, the jobs passed it, and the result has these jobs
 cond-ok : (b : Bool) (k j : JobList) (f : ServiceFault) → cond b (Ok k) (Err f) ≡ Ok j → (b ≡ true) × (k ≡ j)
 cond-ok true k j f e = (refl, subst (λ (v : Outcome). IsOkAnd v (λ x. k ≡ x)) e refl)
 cond-ok false k j f e = absurd (subst (λ (v : Outcome). NotOk v) e tt)

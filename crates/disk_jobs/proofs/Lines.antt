@@ -9,7 +9,7 @@ use Rattle.std.proofs.lemmas.List.{append-nil, take-append-le}
 use Rattle.disk_jobs.specs.Reports.{line_text, lines_text}
 use Rattle.disk_jobs.specs.Services.{Served}
 
--- the lines before line i, that line, and the others
+-- the text of all lines is that of the lines before line i, then line i, then the others
 pub lines_text-at : (ds : List Served) (i : ℕ) (d : Served) → i < length ds
     → lines_text ds ≡ lines_text (take i ds) ++ (line_text (get_or ds i d) ++ lines_text (drop (suc i) ds))
 lines_text-at [] i d h = absurd (omega arith)
@@ -19,7 +19,7 @@ lines_text-at (x ∷ ds) (suc i) d h =
     ∙ sym
     (append_assoc (line_text x) (lines_text (take i ds)) (line_text (get_or ds i d) ++ lines_text (drop (suc i) ds)))
 
--- the lines before line i, and one more
+-- the text of the first i + 1 lines is that of the lines before line i, then line i
 pub lines_text-take : (ds : List Served) (i : ℕ) (d : Served) → i < length ds
     → lines_text (take (suc i) ds) ≡ lines_text (take i ds) ++ line_text (get_or ds i d)
 lines_text-take [] i d h = absurd (omega arith)
@@ -28,7 +28,7 @@ lines_text-take (x ∷ ds) (suc i) d h =
     ap (λ v. line_text x ++ v) (lines_text-take ds i d (omega arith))
     ∙ sym (append_assoc (line_text x) (lines_text (take i ds)) (line_text (get_or ds i d)))
 
--- line i can't be written whole
+-- if line i can't be written whole, a prefix of the text is written, and not all
 pub writing-breaks : (a b c : Option (List ℕ)) (ds : List Served) (i : ℕ) (d : Served) (t : List ℕ) → i < length ds
     → d ≡ get_or ds i d → t ≡ line_text d
     → Appends a b (lines_text (take i ds)) → AppendsPrefix b c t → AppendsPrefix a c (lines_text ds)
@@ -38,7 +38,7 @@ writing-breaks a b c ds i d t l is e p q =
     (AppendsPrefix-after a b c (lines_text (take i ds)) (line_text (get_or ds i d)) (lines_text (drop (suc i) ds)) p
     (subst (λ (v : List ℕ). AppendsPrefix b c v) text q))
 
--- line i is written
+-- if line i is written after the lines before it, the first i + 1 lines are written
 pub writing-goes : (a b c : Option (List ℕ)) (ds : List Served) (i : ℕ) (d : Served) (t : List ℕ) → i < length ds
     → d ≡ get_or ds i d → t ≡ line_text d
     → Appends a b (lines_text (take i ds)) → Appends b c t → Appends a c (lines_text (take (i + 1) ds))
@@ -48,7 +48,7 @@ writing-goes a b c ds i d t l is e p q =
     ∙ ap (λ n. lines_text (take n ds)) (sym (add-one i)) in
     subst (λ (v : List ℕ). Appends a c v) text (Appends-trans a b c (lines_text (take i ds)) t p q)
 
--- the last line can't be written whole
+-- if the last line can't be written whole, a prefix of the text is written, and not all
 pub writing-ends : (a b c : Option (List ℕ)) (w r t : List ℕ) → t ≡ r → Appends a b w → AppendsPrefix b c t
     → AppendsPrefix a c (w ++ r)
 writing-ends a b c w r t e p q =

@@ -9,7 +9,7 @@ use Rattle.std.specs.List.{sum_by}
 use Rattle.std.specs.List.Sorted.{IsNonDecreasingBy, IsPermutation}
 
 module _ {X : Type 0} (n : X → ℕ) where
-  -- how many have a lower number
+  -- how many elements have a number below y
   abbrev lower : ℕ → List X → ℕ
   lower y xs = sum_by (λ x. cond (ltb (n x) y) 1 0) xs
 
@@ -26,7 +26,7 @@ module _ {X : Type 0} (n : X → ℕ) where
       first : (a b c : ℕ) → cond (ltb a b) 1 0 + c ≡ 0 → b ≤ a
       first a b c e = grind (arith, nat_tests)
 
-  -- the numbers, each weighed, are the same
+  -- whatever weight each number has, the weights of both lists have the same sum
   abbrev SameWeights : List X → List X → Type 0
   SameWeights xs ys = (f : ℕ → ℕ) → sum_by (λ x. f (n x)) xs ≡ sum_by (λ x. f (n x)) ys
 

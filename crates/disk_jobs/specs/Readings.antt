@@ -18,7 +18,7 @@ EndsInJob text left =
     (read : List ℕ) × (j : JobList) × (text ≡ read ++ left) × (jobs_of read ≡ Ok j)
     × (0 < length j.cylinders) × (left ≡ after_lines (length j.cylinders + 1) text)
 
--- what was read ends with line i and its end, or with the byte 257 of line i
+-- what was read ends with line i and its end, or with byte 257 of line i
 abbrev pub BehindLine : ℕ → List ℕ → List ℕ → Type 0
 BehindLine i text left =
     (left ≡ after_lines i text) ⊎ (left ≡ drop (257) (after_lines (i - 1) text))

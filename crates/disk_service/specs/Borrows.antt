@@ -1,4 +1,4 @@
--- How often a worker has taken a buffer from the pool and given it back, beside how many jobs it has done.
+-- How often a worker has taken a buffer from the pool and given it back, compared with how many jobs it has done.
 use Rattle.std.specs.Prelude.{ℕ, ◌+◌, ◌≡◌, Result, Ok, Err}
 use Rattle.hoare_law.specs.declared.event.History.{History}
 use Rattle.timed_schedulers.specs.declared.pool.NoStream.{NoStream}

@@ -1,4 +1,4 @@
--- What a worker does again and again, as the front of its place shows it, beside how many jobs it has done.
+-- What a worker does again and again, as the front of its place shows it, compared with how many jobs it has done.
 use Rattle.std.specs.Prelude.{ℕ, ◌+◌, ◌≤◌, Option, Some, None}
 use Rattle.hoare_law.specs.declared.event.History.{History}
 

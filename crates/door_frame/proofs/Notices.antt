@@ -37,7 +37,7 @@ use Rattle.door_frame.specs.Views.{alone, is_alone, front_of}
 use Rattle.door_frame.proofs.Inside.{Holds}
 use Rattle.door_frame.proofs.Seats.{at_front}
 
--- lists that change only on c, and only if a place waits there, are the same if nobody does
+-- lists that change only on c, and only if a place waits on c, stay the same if no place waits on c
 unchanged : (change : List ℕ → List ℕ) (q : ℕ → List ℕ) (c d : ℕ) → change [] ≡ [] → q c ≡ []
     → q d ≡ cond (d == c) (change (q d)) (q d)
 unchanged change q c d stays none = dite (ℕ_discrete d c)

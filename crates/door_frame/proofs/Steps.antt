@@ -62,7 +62,7 @@ pub given_up_due : (k : ℕ) (t : Turn) → IsDue k t → IsGivenUp t
 given_up_due k t (owed c is) = subst IsGivenUp (sym is) tt
 given_up_due k t (returning is) = subst IsGivenUp (sym is) tt
 
--- a step meets another contract if its own implies that one
+-- a step meets each contract that its own contract implies
 pub told_as : {S V : Type 0} (holds : State S V → Type 0) (slots id : ℕ) (me : Me S V) (i : ℕ) (f : ℕ → ℕ)
     (Then Other : ℕ → Me S V → Type 0)
     → ((r : ℕ) (m : Me S V) → Then r m → Other r m) → Allows holds slots id me i f Then

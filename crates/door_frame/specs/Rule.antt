@@ -54,7 +54,7 @@ module _ {D : Type 0} where
       pub tokens : Tokens
       pub one_slot : length s.homes ≡ 1
       pub sized : log.sizes ≡ sizes_at kinds n
-      -- 1. what each place knows is a beginning of the log, which has no other events of it
+      -- 1. what each place knows is a beginning of the log, and the log has no other events of that place
       pub fronts : (j : ℕ) (v : SeatView D) → get_elem? s.views j ≡ some v → EachOf (Agrees n log owner tokens j) v
       -- and no seat has a place twice
       pub apart : (j : ℕ) (v : SeatView D) → get_elem? s.views j ≡ some v → ApartOf v

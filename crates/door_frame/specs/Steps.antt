@@ -29,7 +29,7 @@ abbrev pub StepContract : Type 0 → Type 1
 StepContract D = Step (Option (Guarded D)) → SeatState D → ℕ → SeatState D → Type 0
 
 module _ {D : Type 0} where
-  -- the condition on which a place waits whose last event is this, if it waits
+  -- if a place with this last event waits: the condition on which it waits
   abbrev pub awaited : Option (Event D) → Option ℕ
   awaited (Some (Wait j c p x)) = Some c
   awaited _ = None

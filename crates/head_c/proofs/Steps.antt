@@ -29,12 +29,12 @@ module _ (d : Disk (Unit {0})) (q : ℕ → List ℕ) where
       recounted _ (joined q c p)
       (HeadRests-joined {d = counted d (q 0) (q 1)} q {d1 = counted d (q 0) (q 1)} rests out on refl to with)
 
-  -- the drive is in, so no request waits
+  -- if the drive is in, no request waits, and rest holds after a request for dest gets the drive
   pub at_once : (dest : ℕ) → Rests d q → (d.drive ≡ None → ⊥) → dest ≤ d.cylmax → Rests (sent d dest) q
   at_once dest rests is_in on =
       HeadRests-at_once (counted d (q 0) (q 1)) (q 0) (q 1) dest is_in on rests
 
-  -- a disk on which a request for dest waits for the sweep in the direction dir
+  -- a disk on which a request for dest would have to wait for the sweep in the direction dir
   abbrev before : Direction → ℕ → Disk (Unit {0})
   before dir dest = record d { headpos = dest; direction = opposite dir }
 
@@ -42,7 +42,7 @@ module _ (d : Disk (Unit {0})) (q : ℕ → List ℕ) where
   to_before Up dest = let same : nat_le dest dest ≡ true = grind (arith, nat_tests) in rw same refl
   to_before Down dest = let same : nat_le dest dest ≡ true = grind (arith, nat_tests) in rw same refl
 
-  -- the first request of the present sweep gets the drive
+  -- rest holds after the first request of the present sweep gets the drive
   pub goes_first : (dest : ℕ) → ((i : ℕ) → IsNonDecreasing (q i)) → IsFree d q → q (sweep d.direction) ≢ []
       → slice_index (q (sweep d.direction)) 0 ≡ priority_at d.cylmax d.direction dest → dest ≤ d.cylmax
       → Rests (sent d dest) (taken q (sweep d.direction))
@@ -57,7 +57,7 @@ module _ (d : Disk (Unit {0})) (q : ℕ → List ℕ) where
       rw (to_before d.direction dest) is in
       HeadRests-granted e (taken q c 0) (taken q c 1) {a = asked} {a1 = asked} {dest = dest} ready refl to with on refl
 
-  -- the drive is given back
+  -- the drive is free to be handed off after it was given back
   pub keeps : (drive : Unit {0}) → Rests d q → IsFree (put d drive) q
   keeps drive rests = record {
     inv = rests.inv;

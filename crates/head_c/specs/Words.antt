@@ -15,7 +15,7 @@ abbrev pub drive_of : ℕ → Option (Unit {0})
 drive_of zero = Some tt
 drive_of (suc n) = None
 
--- a disk with no grant counted as due
+-- the disk of C's four words, with no grant counted as due
 abbrev pub disk_of : ℕ → ℕ → ℕ → ℕ → Disk (Unit {0})
 disk_of at last sweeps out =
     record { drive = drive_of out; headpos = at; direction = direction_of sweeps; cylmax = last; stay = 0 }

@@ -14,7 +14,7 @@ use Rattle.hoare_script.specs.declared.lines.Header.{Header}
 abbrev pub sizes_in : Header → Sizes
 sizes_in h = sizes_of h.conditions h.mesa h.places
 
--- a word and its numbers
+-- the command with this word and these numbers, if there is one
 abbrev pub named_one : List ℕ → ℕ → Option Command
 named_one w n =
     if bytes_eq w (codes "enter") then Some (Do (Enter n))
@@ -32,7 +32,7 @@ named_two w k c =
 abbrev pub named_three : List ℕ → ℕ → ℕ → ℕ → Option Command
 named_three w k c p = if bytes_eq w (codes "wait") then Some (Do (Wait k c p)) else None
 
--- a command with one, two or three numbers
+-- the command with this first word, if the one, two or three words after it are numbers
 abbrev pub command_of_one : List ℕ → List ℕ → Option Command
 command_of_one w a = with_number (number_of a) (named_one w)
 

@@ -26,12 +26,12 @@ abbrev pub svg_of : Option Steps → Option Form
 svg_of None = None
 svg_of (Some s) = Some (Svg s)
 
--- a second choice, which isn't of the same name
+-- a second choice, whose name has to differ from that of the first
 abbrev pub chosen_then : Option Steps → List ℕ → List ℕ → List ℕ → Option Steps
 chosen_then None name other w = None
 chosen_then (Some s) name other w = if bytes_eq name other then None else chosen s other w
 
--- no word is the SVG of all steps, --text is a chart, and else each name is followed by its number
+-- without a word, the SVG of all steps; --text alone, the chart as text; else one or two names, each before its number
 abbrev pub form_of_words : List (List ℕ) → Option Form
 form_of_words [] = Some (Svg all_steps)
 form_of_words (w ∷ []) = if bytes_eq w (codes "--text") then Some Text else None

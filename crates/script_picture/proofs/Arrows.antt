@@ -27,7 +27,7 @@ use Rattle.script_picture.proofs.Does.{Log}
 use Rattle.script_picture.proofs.Shown.{turn-with, held_test, held_is, claimed-step, places-after, Answered-at}
 use Rattle.script_picture.proofs.Shown.{Answered-before, after_rows-next}
 
--- from one place to another
+-- a hand-off is from one place to another
 between_is : (k l : ℕ) (over : HandOver) → between k l ≡ Some over
     → ((k == l) ≡ false) × (k ≡ over.from) × (l ≡ over.to)
 between_is k l over is = by (k == l) refl is
@@ -47,7 +47,8 @@ goes_on s (Held j) over claimed is =
 goes_on s (Owed j c) over claimed is = absurd claimed
 goes_on s (Return j) over claimed is = absurd claimed
 
--- and the acting place had it, unless it enters, and so has the turn itself
+-- if a step leaves the turn to another place than the acting one, the acting place had the turn before the step. (A
+-- place that enters doesn't: it has the turn itself after the step.)
 had : (h : Log) (s : Step) (to : ℕ) → refusal_of h s ≡ None → (actor s == to) ≡ false
     → turn (after_step h s).events ≡ Held to → turn h.events ≡ Held (actor s)
 had h (Enter j) to r other is =

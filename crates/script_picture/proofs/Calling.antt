@@ -50,7 +50,7 @@ call_calls before after is =
     let w : (c p : ℕ) × (before ≡ lanes.Waiting c p) = call_waits before after is in
     waiting_called w.0 w.1 after (subst (λ (l : Lane). is_call l after ≡ true) w.2 is)
 
--- a place that does what it did isn't notified, nor is one that is inside after
+-- a place that does the same before and after isn't notified; nor is a place that is inside after
 call_itself : (l : Lane) → is_call l l ≡ true → ⊥
 call_itself l is =
     let w = call_waits l l is in let v = call_calls l l is in
@@ -65,7 +65,7 @@ call_beside : (t : Bool) (before after : Lane) → (is_call before after ≡ tru
 call_beside true before after never is = call_inside before is
 call_beside false before after never is = never is
 
--- nor is a place that has no number after, or had one before
+-- nor is a place without a number after, or with a number before
 call_unnumbered : (l : Lane) → is_call l (lane_beside 0 l) ≡ true → ⊥
 call_unnumbered l is =
     let w = call_waits l _ is in let v = call_calls l _ is in
@@ -114,7 +114,7 @@ acts h (Leave j) k r is = held_is j (turn h.events) (held_test _ _ None r)
 acts h (Notify j c) k r is = held_is j (turn h.events) (held_test _ _ (kind_refusal h true c) r)
 acts h (Broadcast j c) k r is = held_is j (turn h.events) (held_test _ _ (kind_refusal h true c) r)
 
--- a choice of which the result is known
+-- if a choice has a result, the test was true, and the result is j; if it has none, the test was false
 made : (t : Bool) (j from : ℕ) → cond t (Some j) None ≡ Some from → (t ≡ true) × (j ≡ from)
 made true j from is = (refl, cc)
 made false j from is = absurd (cc)
@@ -209,7 +209,7 @@ Calls-at c seen i d k lane from seen_is below is_told follows calls =
       );
     }
 
--- and a row that doesn't
+-- if a row has no notifying place for the place k, it doesn't notify k
 pub LeavesAlone-at : (c : Chart) (seen : List Row) (i : ℕ) (d : Row) (k : ℕ) (lane : Lane) → seen ≡ c.rows.items
     → i < length seen → IsTold c
     → Follows (opening c.header) c.rows.items i k lane → caller (slice_index_or seen i d) k lane ≡ None

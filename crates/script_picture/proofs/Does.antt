@@ -69,7 +69,7 @@ lane_as n h k = lane_last n (newest (own k h.events))
 abbrev pub lane_of : Log → ℕ → Lane
 lane_of h k = lane_as (number_called h.events k) h k
 
--- another number changes only what a place that began to wait does
+-- of the numbers of a place that began to wait, only the latest determines what it does
 beside_numbered : (n m c p : ℕ) → lane_numbered n c p ≡ lane_beside n (lane_numbered m c p)
 beside_numbered n m c p = by (m == 0)
   where
@@ -77,7 +77,7 @@ beside_numbered n m c p = by (m == 0)
     by true = refl
     by false = refl
 
--- what an event says of its place: by which of the tests of events it passes, and by another number
+-- what the place of the event e does: by each test that e passes, and by what it did with another number
 record Told (n m : ℕ) (e : Act) : Type 0 where
   inside : is_inside e ≡ true → lanes.Inside ≡ lane_by n e
   signals : is_signal e ≡ true → lanes.Signalling ≡ lane_by n e
@@ -187,7 +187,7 @@ out_is : (n : ℕ) (o : Option Act) → is_out o ≡ true → lanes.Outside ≡ 
 out_is n None is = refl
 out_is n (Some e) is = (told n n e).out is
 
--- a test that all elements pass, each passes
+-- if all elements pass a test, each of them passes it
 all_pass : {X : Type 0} (p : X → Bool) (xs : List X) → list_all p xs ≡ true → All (λ x. p x ≡ true) xs
 all_pass p [] is = All-nil (λ x. p x ≡ true)
 all_pass p (x ∷ xs) is = let b = both_true _ _ is in All-cons (λ y. p y ≡ true) x xs b.0 (all_pass p xs b.1)

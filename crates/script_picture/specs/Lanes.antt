@@ -21,7 +21,7 @@ actor (Leave k) = k
 actor (Notify k c) = k
 actor (Broadcast k c) = k
 
--- what that place does after the step, unless it is inside
+-- what that place does after the step, if the answer doesn't name it as the place inside
 abbrev pub left_as : Step → Lane
 left_as (Enter k) = lanes.Inside
 left_as (Wait k c p) = lanes.Waiting c p
@@ -43,7 +43,7 @@ lane_beside number lanes.Outside = lanes.Outside
 lane_beside number lanes.Inside = lanes.Inside
 lane_beside number lanes.Signalling = lanes.Signalling
 
--- a place after a step, if another place is inside or none
+-- a place after a step, if the answer doesn't name it as the place inside
 abbrev pub lane_left : Step → ℕ → ℕ → Lane → Lane
 lane_left s number place before = if actor s == place then left_as s else lane_beside number before
 
@@ -80,7 +80,7 @@ caller_commanded (First c) before after = None
 abbrev pub caller : Row → ℕ → Lane → Option ℕ
 caller row place before = caller_commanded row.command before (lane_after row place before)
 
--- from one place to another, if they differ
+-- the hand-off from one place to another, if they differ
 abbrev pub between : ℕ → ℕ → Option HandOver
 between k l = if k == l then None else Some (record { from = k; to = l })
 

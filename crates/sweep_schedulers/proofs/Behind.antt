@@ -53,7 +53,7 @@ sum_most most (n ∷ rounds) all =
     let more = sum_most most rounds (All-tail (λ n. n ≤ most) n rounds all) in
     omega (arith, more, All-head (λ n. n ≤ most) n rounds all, sum_by-cons (λ n. n) n rounds)
 
--- in at most k rounds
+-- in at most k rounds of at most `most` readers there are at most k * most reads
 reads_most : (reads k most : ℕ) (rounds : List ℕ) → reads ≤ sum rounds → length rounds ≤ k
     → All (λ n. n ≤ most) rounds → reads ≤ k * most
 reads_most reads k most rounds of few all =
@@ -79,8 +79,8 @@ module _ {T : Type 0} where
   round_size (admitted s a e n begun read admits more) = omega (arith, round_size more)
   round_size (refused s a e n begun x admits more) = omega (arith, round_size more)
 
-  -- each write that was in or began has ended, in at most a round, except the write that is in; and each read is of a
-  -- round
+  -- at most one round began for each write that was in or began, without the write that is in; and each read that
+  -- began is of a round
   record Waited (s : Shared T) (m : Moment T) : Type 0 where
     rounds : length m.rounds + writers_in m.state ≤ length m.writes + writers_in s
     reads : m.reads ≤ sum m.rounds

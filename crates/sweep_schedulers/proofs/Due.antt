@@ -18,7 +18,7 @@ use Rattle.sweep_schedulers.proofs.Lists.{count_by-above}
 abbrev pub at_here : Direction → ℕ → ℕ → List ℕ → List ℕ → ℕ
 at_here dir cylmax here ups downs = count_by (λ q. cylinder_of cylmax dir q == here) (of_sweep dir ups downs)
 
--- the priorities give the same number
+-- on the present sweep, as many requests have the priority of the cylinder under the head as wait for that cylinder
 pub waiting_here-equal : {T : Type 0} (d : Disk T) (lists : ℕ → List ℕ) (c p : ℕ) → d.headpos ≤ d.cylmax
     → All (λ q. q ≤ d.cylmax) (lists 1) → c ≡ sweep d.direction → p ≡ priority_at d.cylmax d.direction d.headpos
     → count_by (λ q. q == p) (lists c) ≡ waiting_here d (lists 0) (lists 1)
@@ -45,7 +45,7 @@ joined_here lists Down Down cylmax here dest other on =
     let o : here ≢ dest = other refl in grind (arith, nat_tests) in
     count_by-fails (λ q. cylmax - q == here) (cylmax - dest) (lists 1) apart
 
--- the first of the present sweep is counted among those that wait for it
+-- if the first of the present sweep is removed and inserted again, the number of those that wait stays the same
 pub up_first : (present : Direction) (cylmax here : ℕ) (ups downs : List ℕ) → present ≡ Up → ups ≢ []
     → at_here present cylmax here (put_in (λ n. n) (slice_index ups 0) (behind_first ups)) downs
     ≡ at_here present cylmax here ups downs

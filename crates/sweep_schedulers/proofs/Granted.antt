@@ -24,7 +24,7 @@ left false cylmax come stay w p k = stay + (cylmax - come + p) * w + k
 abbrev left_of : {T : Type 0} → ℕ → Direction → ℕ → ℕ → Disk T → ℕ
 left_of m own p k d = left (sweep d.direction == sweep own) d.cylmax (reached d) d.stay (m - suc k) p k
 
--- a stop has at most w grants
+-- with one stop less, and with fewer than w grants due, fewer grants are left: a stop has at most w of them
 one_stop : (a b s t w k : ℕ) → suc s ≤ w → suc a ≤ b → suc (s + a * w + k) ≤ t + b * w + k
 one_stop a b s t w k within further =
     let more : suc a * w ≤ b * w = mul-le-mul_right w further in
@@ -134,7 +134,7 @@ module _ {T : Type 0} (m p k j : ℕ) (own : Direction) (e : Disk T) (q : ℕ �
   within apart =
       omega (arith, among, one_less_due, few_apart e.direction own q m (first e.direction q) p few apart)
 
-  -- the request is no nearer than the next
+  -- on its own sweep, the request isn't nearer to the head than the request that is granted next
   first_upto : e.direction ≡ own → first e.direction q ≤ p
   first_upto same =
       let all = ahead e.direction (granted_first e drive q) (taken q (sweep e.direction)) rests in

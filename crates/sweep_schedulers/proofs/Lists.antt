@@ -19,7 +19,7 @@ pub All-first : (P : ℕ → Type 0) (q : List ℕ) → q ≢ [] → All P q →
 All-first P [] some all = absurd (some refl)
 All-first P (x ∷ q) some all = All-head P x q all
 
--- if a test that finds any returns false, there are none
+-- if a test that returns true for each list with an element returns false, the list is empty
 pub none_told : {X : Type 0} (xs : List X) (b : Bool) → (xs ≢ [] → IsTrue b) → b ≡ false → xs ≡ []
 none_told [] b told untold = refl
 none_told (x ∷ xs) true told untold = absurd (cc)
@@ -61,7 +61,7 @@ none_above p (q ∷ qs) above =
     let rest : count_by (λ r. r == p) qs ≡ 0 = none_above p qs (λ j l. above (suc j) (omega arith)) in
     count_by-cons (λ r. r == p) q qs ∙ (rw (apart, rest) refl)
 
--- if they rise and one is above p, those before it determine how many are p
+-- if the list rises and element i is above p, all elements equal to p are before element i
 pub count_by-before : (p : ℕ) (qs : List ℕ) (i : ℕ) → IsNonDecreasing qs → i < length qs → p < get_or qs i 0
     → count_by (λ q. q == p) (take i qs) ≡ count_by (λ q. q == p) qs
 count_by-before p [] i rises l above = absurd (omega arith)
@@ -71,7 +71,7 @@ count_by-before p (q ∷ qs) (suc i) rises l above =
     let rest = count_by-before p qs i (IsNonDecreasing-behind_first (q ∷ qs) rises) (omega arith) above in
     omega (arith, rest, count_by-cons (λ r. r == p) q (take i qs), count_by-cons (λ r. r == p) q qs)
 
--- if they rise and the first is above p, none is p
+-- if the list rises and its first element is above p, no element is p
 pub count_by-above : (p : ℕ) (qs : List ℕ) → IsNonDecreasing qs → qs ≢ [] → p < slice_index qs 0
     → count_by (λ q. q == p) qs ≡ 0
 count_by-above p [] rises some above = refl

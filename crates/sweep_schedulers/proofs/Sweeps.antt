@@ -50,13 +50,13 @@ other_by d dest false high dir e f same here = grind (arith, nat_tests)
 toward_other : {T : Type 0} (d : Disk T) (dest : ℕ) → d.direction ≡ toward dest d → d.headpos ≡ dest → ⊥
 toward_other d dest = other_by d dest (leb d.headpos dest) (leb dest d.headpos) d.direction refl refl
 
--- a drive is out or in
+-- a drive isn't both out and in
 not_both : {X : Type 0} (o : Option X) → o ≡ None → IsSome o → ⊥
 not_both None out some = cc
 not_both (Some x) out some = cc
 
 module _ {T : Type 0} {d : Disk T} (lists : ℕ → List ℕ) where
-  -- one more request waits, for a cylinder ahead of the head or under it
+  -- rest holds with one more request, for a cylinder ahead of the head, or under it and on the other sweep
   rests_by : (dir : Direction) (dest : ℕ) → IsAhead d dir dest → (d.direction ≡ dir → d.headpos ≡ dest → ⊥)
       → dest ≤ d.cylmax → d.drive ≡ None → HeadRests d (lists 0) (lists 1)
       → HeadRests d (joined lists (sweep dir) (priority_at d.cylmax dir dest) 0)
@@ -196,13 +196,13 @@ HeadFree-turned f = record {
   };
 }
 
--- a sweep's condition is one of the two, which both are Hoare's
+-- a sweep's condition is one of the two, both of which are Hoare's
 pub sweep_hoare : (dir : Direction) → IsHoare 2 0 (sweep dir)
 sweep_hoare Up = omega arith
 sweep_hoare Down = omega arith
 
 module _ {T : Type 0} (found : Disk T) (ups downs : List ℕ) where
-  -- the head is at the cylinder of the granted request, which is the first ahead of the head
+  -- rest holds once the head is at the cylinder of the granted request, which was the first ahead of the head
   granted_by : (dir : Direction) (dest cylmax : ℕ) → dest ≤ cylmax → found.cylmax ≡ cylmax
       → HeadReady (sweep dir) (priority_at cylmax dir dest) found ups downs
       → HeadRests (counted (sent found dest) ups downs) ups downs
@@ -243,7 +243,7 @@ module _ {T : Type 0} (found : Disk T) (ups downs : List ℕ) where
       let for : found.cylmax - (cylmax - dest) ≡ dest = omega arith in
       sym ((rw here at r.stay) ∙ down_one found.direction found.cylmax dest (cylmax - dest) ups downs r.direction for)
 
-  -- a request that waited is granted
+  -- rest holds after a request that waited was granted
   pub HeadRests-granted : {a a1 : Disk T} {c p dest : ℕ} → HeadReady c p found ups downs → a1 ≡ a
       → c ≡ sweep (toward dest a1) → p ≡ priority_at a1.cylmax (toward dest a1) dest → dest ≤ a.cylmax
       → found.cylmax ≡ a.cylmax → HeadRests (counted (sent found dest) ups downs) ups downs
@@ -258,7 +258,7 @@ module _ {T : Type 0} (found : Disk T) (ups downs : List ℕ) where
       less_by (toward dest a) dest a.cylmax on disk here (rw (to, with, same) at r)
 
 module _ {T : Type 0} (found : Disk T) where
-  -- a request that found the drive in is granted: no request waited
+  -- rest holds after a request that found the drive in was granted: no request waited
   pub HeadRests-at_once : (us ds : List ℕ) (dest : ℕ) → (found.drive ≡ None → ⊥) → dest ≤ found.cylmax
       → HeadRests found us ds → HeadRests (counted (sent found dest) us ds) us ds
   HeadRests-at_once [] [] dest is_in on r = record {
@@ -299,7 +299,7 @@ pub HandsOn-as : {T : Type 0} {k k1 : ℕ} {d d1 : Disk T} {g g1 h : History (Di
     → d1 ≡ d → g1 ≡ g → HandsOn k d g h
 HandsOn-as hands place state front = rw (place, state, front) at hands
 
--- if the due grants are counted already
+-- if n grants are due already, to count n as due changes nothing
 counted_as : {T : Type 0} {k c : ℕ} (d : Disk T) (n : ℕ) {g h : History (Disk T)} → d.stay ≡ n → Finishes k c d g h
     → Finishes k c (due d n) g h
 counted_as d n is finishes = rw (sym is) finishes

@@ -28,7 +28,7 @@ All-counted P p (x ∷ qs) all some = by (x == p) refl (All-counted P p qs (All-
         let fewer : equals p (x ∷ qs) ≡ equals p qs = count_by-cons (λ s. s == p) x qs ∙ (rw is (omega arith)) in
         rest (omega (arith, some, fewer))
 
--- none is counted twice
+-- no element is counted for two different priorities
 one_of : (s p x : ℕ) → s ≢ p → cond (x == s) 1 0 + cond (x == p) 1 0 ≤ 1
 one_of s p x apart = by (x == s) (x == p) refl refl
   where
@@ -59,7 +59,7 @@ shorter : (qs : List ℕ) → length (behind_first qs) ≤ length qs
 shorter [] = omega arith
 shorter (x ∷ qs) = omega arith
 
--- two sweeps
+-- sweeps with the same condition have the same direction
 pub same_sweep : (a b : Direction) → (sweep a == sweep b) ≡ true → a ≡ b
 same_sweep Up Up is = refl
 same_sweep Up Down is = absurd (cc)

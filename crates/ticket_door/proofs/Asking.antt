@@ -36,7 +36,7 @@ module _ {D : Type 0} where
   pub asking_number : (m : SeatState D) (k : ℕ) (f : History D) (x : ℕ) → IsAsking k f x m → number_of m.0 ≡ x
   asking_number m k f x e = ap (λ (z : SeatState D). number_of z.0) e
 
-  -- by its own front and number
+  -- the seat of a place with a ticket, by the front and the number that its own view has
   pub asking_by : (m : SeatState D) (is : is_alone m.0 ≡ true) (k : ℕ) (f : History D) (x : ℕ) → IsAsking k f x m
       → IsAsking k (front_of m.0 is) (number_of m.0) m
   asking_by m is k f x e =

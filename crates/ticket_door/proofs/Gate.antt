@@ -96,7 +96,7 @@ asks_kept (shut_by i v) first served a q k e h = record {
       let apart = h.apart in omega (arith, times-append i q (k ∷ []), apart, away);
 }
 
--- one more turn ended
+-- what holds of the gate's holder still holds after one more turn ended
 pub serves_kept : (g : Gate) (first served a : ℕ) (q : List ℕ) → IsKept first served a q g
     → IsKept first (served + 1) a q g
 serves_kept ajar first served a q h = tt

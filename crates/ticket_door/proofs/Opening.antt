@@ -22,7 +22,7 @@ use Rattle.door_frame.proofs.Steps as frame
 use Rattle.ticket_door.specs.Rule.{Initial, WordsFit, ajar, next_at, serving_at, bell_at}
 
 module _ {D : Type 0} (first n : ℕ) where
-  -- no place has a ticket, and none is served
+  -- the words fit a door that has just been opened: no place has a ticket, and the first ticket is served
   opened_tells : (kinds : Kinds) (s : D) (ws : List ℕ) → Initial first n true ws
       → WordsFit first n (opened (sizes_at kinds n) s) (λ _. None) ws
   unfolding turn admissions urgent called

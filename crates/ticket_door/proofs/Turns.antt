@@ -116,7 +116,7 @@ no_admit f (Broadcast k c s) may busy = refl
 pub held_busy : (k : ℕ) (t : Turn) → t ≡ Held k → t ≢ Free
 held_busy k t is e = let no : Held k ≡ Free = sym is ∙ e in cc
 
--- the next ticket's word
+-- NEXT, once the next ticket is taken
 pub next_word : (first x : ℕ) → ((first + x) % 2 ^ 64 + 1) % 2 ^ 64 ≡ (first + (x + 1)) % 2 ^ 64
 next_word first x =
     mod-add-mod (first + x) (2 ^ 64) 1
@@ -137,7 +137,7 @@ served_only first served x le lt e =
     one_turn (2 * (first + served)) (2 * (first + x)) (2 ^ 64) (omega (arith, le)) (omega (arith, lt)) e in
     omega (arith, same)
 
--- while the gate is shut SERVING is odd
+-- if SERVING is even, the gate isn't shut
 pub even_ajar : (a b : ℕ) (g : Gate) → (2 * a + shut g) % 2 ^ 64 ≡ (2 * b) % 2 ^ 64 → g ≡ ajar
 even_ajar a b ajar e = refl
 even_ajar a b (shut_by k v) e = absurd (omega (arith, e))

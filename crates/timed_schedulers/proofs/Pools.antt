@@ -46,7 +46,7 @@ PoolReady-freed {p = p} {b = b} {s = s} rests within is freed waits some =
       others = λ others. omega (arith, more, rests.nonfree (λ none. some (waits ∙ none)));
     })
 
--- if a buffer is free, no process waits
+-- if a buffer is free, no process waits, so ready holds
 pub PoolReady-idle : {p : Pooled} {q : List ℕ} → PoolRests p q → free_count p ≢ 0 → PoolReady p q
 PoolReady-idle rests some =
     record { inv = rests.inv; some = omega arith; others = λ waits. absurd (some (rests.nonfree waits)) }

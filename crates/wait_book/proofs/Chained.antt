@@ -38,7 +38,7 @@ held_some s k n e = rw e refl
 held_same : (s t : Slab Node) (k : ℕ) → get t k ≡ get s k → held t k ≡ held s k
 held_same s t k e = ap (λ o. cond (is_some o) 1 0) e
 
--- a number from `CHAINS` on has no list
+-- the list of each number from `CHAINS` on is empty
 pub beyond : {s : Slab Node} {chains : List Chain} {at : ℕ → List Link} → AreChains s chains at → (c : ℕ) → CHAINS ≤ c
     → at c ≡ []
 beyond {s = s} {chains = chains} {at = at} i c l =
@@ -150,7 +150,7 @@ chains_put s chains at c v xs m l here there d =
       | inr n ↦ rw (get_or-set_other chains c d v empty n, put_other c d xs at n) (there d n)
     ]
 
--- a chain whose nodes are as they were
+-- a chain whose nodes are as they were represents the list that it represented
 chain_kept : (s t : Slab Node) (v : Chain) (xs : List Link) → ((k : ℕ) → 0 < times k (keys xs) → get t k ≡ get s k)
     → IsChain s v xs → IsChain t v xs
 chain_kept s t v xs h i = record { linked = IsLinked-same s t v.first xs None h i.linked; last = i.last }

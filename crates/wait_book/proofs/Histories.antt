@@ -369,7 +369,7 @@ abbrev pub after_handing : Bool → Log → ℕ → ℕ → Option Act → Log
 after_handing true = after_pass
 after_handing false = after_signal
 
--- it hands the monitor to the chosen waiter
+-- a signal or a pass hands the monitor off to the chosen waiter
 pub after_handing-some : {D : Type 0} (out : Bool) (h : Log) (k c w : ℕ) (e : Act) (s : D) → place_of e ≡ w
     → after_handing out h k c (Some e) ≡ with_event h (without_data (handing out k c w s))
 after_handing-some true h k c w e s is = ap (λ j. with_event h (Pass k c j tt)) is
@@ -404,7 +404,7 @@ module _ (b : Contents) (k c w : ℕ) (ws : List Waiter) (r : Resumes b k c w ws
   waiters_left : filter (λ (v : Waiter). not (k == v.place || w == v.place)) b.waiters ≡ ws
   waiters_left = filter-taken k c b.waiters ws w r.took (holder_apart b k r.by).0 (omega (arith, r.by.sound.once w))
 
-  -- k hands the monitor to the resumed place, and is among the signallers unless the signal is its last act
+  -- k hands the monitor off to the resumed place, and is among the signallers unless the signal is its last act
   handed_of : c < hoare_of b → (out : Bool)
       → IsOf (resumed ws (cond out b.signallers (b.signallers ++ k ∷ [])) w c b)
       (with_event h (without_data (handing {S = Unit {0}} out k c w tt)))

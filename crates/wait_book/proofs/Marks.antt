@@ -22,7 +22,7 @@ marked-other s k j b n = ap (λ (v : Bool). cond v 1 0) (get_or-set_other s k j 
 marked_few : (s : List Bool) (k : ℕ) → marked s k ≤ 1
 marked_few s k = elim (get_or s k false) as (λ b. cond b 1 0 ≤ 1) [ true ↦ omega arith | false ↦ omega arith ]
 
--- a place that is marked has a mark
+-- a place that is marked is within the list of the marks
 marked_within : (s : List Bool) (k : ℕ) → 0 < marked s k → k < length s
 marked_within s k p =
     elim (cases_lt k (length s)) [
@@ -97,7 +97,7 @@ module _ {s : List Bool} {at : ℕ → List Link} (c : ℕ) (x : Link) (after : 
   taken_times k =
       omega (arith, times_put (λ d (y : Link). y.place) k CHAINS c after at l, ap (λ v. times k (places_in v)) is)
 
-  -- the first of a list has a mark
+  -- the place of the first of a list is below `MOST_PLACES`
   pub first_within : x.place < MOST_PLACES
   first_within =
       omega

@@ -245,7 +245,7 @@ walked_first s from k n e f g =
 
 -- the links before the first whose priority is above
 
--- a list that doesn't fall doesn't after its first either
+-- the rest of a rising list, after its first element, rises too
 rising_after : (n : ℕ) (ns : List ℕ) → IsNonDecreasing (n ∷ ns) → IsNonDecreasing ns
 rising_after n ns r i j d le lt = r (suc i) (suc j) d (omega arith) (omega arith)
 

@@ -13,7 +13,7 @@ use Rattle.wait_book.specs.Numbers.{number_called, number_from}
 use Rattle.wait_book.proofs.Times.{few_once}
 use Rattle.wait_book.proofs.Waiters.{places}
 
--- there are at most as many called as places
+-- there are at most `MOST_PLACES` called
 pub few_called : (b : Contents) → IsSound b → length b.called ≤ MOST_PLACES
 few_called b s =
     let few : length (places b.called) ≤ b.sizes.places =

@@ -316,7 +316,7 @@ waited_sound b w ws p o l =
     (λ c. waited_ordered b w ws c p (o.sound.ordered c)) o.sound.on_mesa
     (given_up_fits b.signallers b.called (hoare_of b))
 
--- at most as many processes wait as there are places
+-- at most `MOST_PLACES` processes wait
 pub few_waiters : (b : Contents) → IsSound b → length b.waiters ≤ MOST_PLACES
 few_waiters b s =
     let few : length (places b.waiters) ≤ b.sizes.places =

@@ -24,7 +24,7 @@ pub one_at : (k j : ℕ) → eqb k j ≡ true → one k j ≡ 1
 unfolding one
 one_at k j h = rw h refl
 
--- `one` is 0 for two places
+-- `one` is 0 for two different places
 pub one_apart : (k j : ℕ) → eqb k j ≡ false → one k j ≡ 0
 unfolding one
 one_apart k j h = rw h refl
@@ -34,7 +34,7 @@ pub one_le : (k j : ℕ) → one k j ≤ 1
 unfolding one
 one_le k j = grind (arith, nat_tests)
 
--- places for which `one` is 0 are two
+-- places for which `one` is 0 are different
 pub apart_one : (k j : ℕ) → one k j ≡ 0 → eqb k j ≡ false
 unfolding one
 apart_one k j h = grind (arith, nat_tests)

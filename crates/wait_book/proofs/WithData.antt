@@ -58,19 +58,19 @@ module _ {D : Type 0} where
       → times_in k b ≡ 0
   times_in-outside b h k o out = eqb-true (times_in k b) 0 (sym (o.outside_are k) ∙ outside-erased k h.events ∙ out)
 
-  -- a book of the history without data, after another event
+  -- a book of the erased history with one more event is of the longer history, erased
   pub IsOf-event : (b : Contents) (h : History D) (e : Event D) → IsOf b (with_event (erased h) (without_data e))
       → IsOf b (erased (with_event h e))
   IsOf-event b h e o = subst (IsOf b) (sym (erased-push h e)) o
 
-  -- so after the claim of a place to which the monitor is owed
+  -- the same for the claim of a place to which the monitor is owed
   pub IsOf-claim : (b : Contents) (h : History D) (t : Turn) (e : Event D) → turn h.events ≡ t
       → after_claim (erased h) t ≡ with_event (erased h) (without_data e)
       → IsOf b (settled (erased h)) → IsOf b (erased (with_event h e))
   IsOf-claim b h t e is adds o =
       IsOf-event b h e (subst (IsOf b) (ap (after_claim (erased h)) (turn-erased h.events ∙ is) ∙ adds) o)
 
-  -- so after a signal and a pass
+  -- the same for a signal and a pass
   pub IsOf-handing : (out : Bool) (b : Contents) (h : History D) (k c : ℕ) (x : Event D) (s : D)
       → chosen c h.events ≡ Some x
       → IsOf b (after_handing out (erased h) k c (chosen c (erased h).events))
@@ -79,7 +79,7 @@ module _ {D : Type 0} where
       (ap (after_handing out (erased h) k c) (chosen-erased c h.events ∙ ap (option_map without_data) is)
       ∙ after_handing-some out (erased h) k c (place_of x) (without_data x) s (place_of-erased x)) o)
 
-  -- so after a notify
+  -- the same for a notify
   pub IsOf-notify : (b : Contents) (h : History D) (k c : ℕ) (x : Event D) (s : D) → chosen c h.events ≡ Some x
       → IsOf b (after_notify (erased h) k c (chosen c (erased h).events))
       → IsOf b (erased (with_event h (Notify k c (place_of x) s)))
@@ -87,7 +87,7 @@ module _ {D : Type 0} where
       (ap (after_notify (erased h) k c) (chosen-erased c h.events ∙ ap (option_map without_data) is)
       ∙ ap (λ j. with_event (erased h) (Notify k c j tt)) (place_of-erased x)) o)
 
-  -- so after a broadcast
+  -- the same for a broadcast
   pub IsOf-broadcast : (b : Contents) (h : History D) (k c : ℕ) (s : D) → waiting c h.events ≢ []
       → IsOf b (after_broadcast (erased h) k c (waiting c (erased h).events))
       → IsOf b (erased (with_event h (Broadcast k c s)))

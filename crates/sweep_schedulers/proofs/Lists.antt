@@ -19,7 +19,7 @@ pub All-first : (P : ℕ → Type 0) (q : List ℕ) → q ≢ [] → All P q →
 All-first P [] some all = absurd (some refl)
 All-first P (x ∷ q) some all = All-head P x q all
 
--- if a test that returns true for each list with an element returns false, the list is empty
+-- if a test is true whenever the list has an element, and it returned false, the list is empty
 pub none_told : {X : Type 0} (xs : List X) (b : Bool) → (xs ≢ [] → IsTrue b) → b ≡ false → xs ≡ []
 none_told [] b told untold = refl
 none_told (x ∷ xs) true told untold = absurd (cc)

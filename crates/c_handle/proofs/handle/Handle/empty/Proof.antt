@@ -58,7 +58,8 @@ empty_spec 𝓤 𝓛 𝓜 𝓡 wired T L =
     enter ! 𝓣.C 𝓣.Λ fn (vptr rb ro ∷ h ∷ w ∷ []) Post $ alloc_all ! (λ l. pass_all ! refl ((tt, tt), (fits, (ptr_good p, tt))) $
     opens ! tt Hd {h = d} rb ro (λ us. move ! (1 ∷ []) $ handle_out R ! d us one (λ b o h' at_b ws fits'.
     rewrite ! 2 (λ (xs : List Val). ‵ (cell_at full_share Hd.mir xs rb ro)) ws refl $
-    -- [the value in its block; its allocator; the struct's cell; the open borrow, in three entries; the allocator; a token]
+    -- [the value in its block; its allocator; the struct's cell; the open borrow, in three entries; the allocator; a
+    -- token]
     sets ! (of_opd ! (load ! (through ! refl (fld ! refl (stop !))) (look_in ! 2 (sub ! 0 refl (whole !))))) refl (tt, tt) $
     assigns ! (of_opd ! (get ! refl)) (through ! refl (fld ! refl (stop !))) (store_in ! 2 (sub ! 0 refl (whole !)) (ptr_good p)) $
     sets ! (agg ! (and_then ! (get ! refl) (and_then ! (get ! refl) (no_more !)))) refl

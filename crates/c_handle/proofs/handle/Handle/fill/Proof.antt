@@ -60,7 +60,8 @@ fill_spec 𝓤 𝓛 𝓜 𝓡 wired T L =
     alloc_all ! (λ l. pass_all ! refl ((tt, tt), (loose_good R Z global_laws.the_row_laws heap.ghosts b o h fits, tt)) $
     opens ! tt Hd {h = d} rb ro (λ us. move ! (1 ∷ []) $ handle_empty R ! d us none (λ h' ws fits'.
     rewrite ! 1 (λ (xs : List Val). ‵ (cell_at full_share Hd.mir xs rb ro)) ws refl $
-    -- [the allocator; the struct's cell; the open borrow, in three entries; the value in its block; its allocator; a token]
+    -- [the allocator; the struct's cell; the open borrow, in three entries; the value in its block; its allocator; a
+    -- token]
     sets ! (of_opd ! (get_in ! (fld ! refl (stop !)) (sub ! 0 refl (whole !)))) refl (tt, tt) $
     assigns ! (of_opd ! (get ! refl)) (through ! refl (fld ! refl (stop !))) (store_in ! 1 (sub ! 0 refl (whole !)) (tt, tt)) $
     sets ! (of_opd ! (unit_lit !)) refl (tt, tt) $

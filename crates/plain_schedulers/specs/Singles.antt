@@ -5,6 +5,6 @@ use Rattle.std.specs.Prelude.{ℕ, List, [], ◌≡◌, ◌≢◌, Option, None,
 abbrev pub SingleRests : {T : Type 0} → Option T → List ℕ → Type 0
 SingleRests item waiting = waiting ≢ [] → item ≡ None
 
--- the resumed process finds the item in: the signaller put it in, and rest will hold again after it is taken out
+-- the resumed process finds the item in, and rest will hold again after it takes the item out
 abbrev pub SingleReady : {T : Type 0} → Option T → Type 0
 SingleReady item = IsSome item

@@ -13,8 +13,8 @@ use std::marker::Model;
 use std::sync::Wait;
 
 /// A bounded buffer whose two conditions, numbered as those of `Buffer`, are Mesa conditions. A process that waited
-/// tests again when it resumes. A process that puts an item in or takes an item out notifies one waiter, and then
-/// leaves.
+/// tests again when it resumes. Before it leaves, a process that put an item in notifies one waiter on *nonempty*, and
+/// a process that took an item out notifies one waiter on *nonfull*, if there is one.
 #[derive(Drop)]
 pub struct MesaBuffer<T> {
     buffer: Buffer<T>,
@@ -46,7 +46,7 @@ impl<T: Drop> MonitorData for MesaBuffer<T> {
     ghost ready = { λ c p b q. BufferHolds b };
 
     fn rest_holds<W: Waits>(&self, _lists: &W) -> bool {
-        let _len = self.buffer.len(); // the test of what always holds of a buffer
+        let _len = self.buffer.len(); // its contract states what always holds of a buffer
         true
     }
 

@@ -5,7 +5,7 @@ ghost use Rattle.plain_schedulers.specs.Buffers.{BufferHolds, added};
 use super::Buffer;
 use std::alloc::{AllocError, Global};
 
-// Creates `n` cells without an item.
+// Creates `n` cells without an item. Returns `AllocError` if an allocation fails.
 pub(super) fn empty_cells<T: Drop>(alloc: Global, n: usize) -> Result<Vec<Option<T>>, AllocError>
     ensures { IfOk result (λ cells. cells.items ≡ replicate n None) }
 {

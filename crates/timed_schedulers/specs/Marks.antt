@@ -5,11 +5,11 @@ use Rattle.std.specs.List.{count_by}
 use Rattle.std.specs.Int.{bit_at}
 use Rattle.timed_schedulers.specs.Pools.{IsSize, is_own}
 
--- 1 if i is marked
+-- 1 if i is marked, else 0
 abbrev pub mark_of : List ℕ → ℕ → ℕ
 mark_of words i = bit_at (slice_index words (i / 64)) (i % 64)
 
--- 1 if there is an owner
+-- 1 if there is an owner, else 0
 abbrev pub owned : Option ℕ → ℕ
 owned None = 0
 owned (Some s) = 1

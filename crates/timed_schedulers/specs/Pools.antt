@@ -20,7 +20,7 @@ all_free buffers streams = record { streams = streams; owners = replicate buffer
 abbrev pub with_owner : Pooled → ℕ → Option ℕ → Pooled
 with_owner p b owner = record { streams = p.streams; owners = slice_set p.owners b owner }
 
--- the owner is s
+-- true if the owner is s
 abbrev pub is_own : ℕ → Option ℕ → Bool
 is_own s None = false
 is_own s (Some t) = t == s

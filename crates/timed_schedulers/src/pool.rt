@@ -20,7 +20,7 @@ pub const MOST_BUFFERS: u32 = 1024;
 /// The largest number of streams of a pool.
 pub const MOST_STREAMS: u32 = 256;
 
-/// The condition *nonfree* of a `Pool`: a stream waits on it for a free buffer.
+/// The condition *nonfree* of a `Pool`: a process waits on it until a buffer is free.
 pub const NONFREE: usize = 0;
 
 /// Why no pool was created.
@@ -54,9 +54,9 @@ pub enum GiveRefused {
 }
 
 /// Buffers that streams of work share (Hoare 1974, Further Examples: Buffer Allocation; the details are this
-/// project's). Condition 0 is *nonfree* (`NONFREE`); a stream waits on it with the number of buffers that it holds as
-/// its priority, so that the waiter with the fewest resumes first. The pool records the owner of each buffer; it
-/// doesn't contain the buffers.
+/// project's). Condition 0 is *nonfree* (`NONFREE`). A process waits on it for a stream, with the number of buffers
+/// that this stream holds when the wait begins as its priority: the waiter with the least number resumes first. The
+/// pool records the owner of each buffer; it doesn't contain the buffers.
 ///
 /// With a monitor `m` of `Pool::make(alloc, 2, 3)?`, and `out`, a place of it:
 ///

@@ -8,7 +8,7 @@ use super::marks::{least_unmarked, mark, unmark};
 use std::alloc::{AllocError, Global};
 
 impl Pool {
-    // Creates a pool with all buffers free.
+    // Creates a pool with all buffers free. Returns `AllocError` if an allocation fails.
     pub(super) fn all_free(
         alloc: Global,
         buffers: usize,

@@ -51,13 +51,13 @@ sent d dest = moved (given_out d) dest
 abbrev pub toward : {T : Type 0} → ℕ → Disk T → Direction
 toward dest d = if nat_le d.headpos dest then (if nat_le dest d.headpos then opposite d.direction else Up) else Down
 
--- the priority with which a request for dest waits for that sweep: the cylinder on the way up, its distance from the
--- last one on the way down
+-- the priority with which a request for dest waits for the sweep in this direction: the cylinder on the way up, its
+-- distance from the last one on the way down
 abbrev pub priority_at : ℕ → Direction → ℕ → ℕ
 priority_at cylmax Up dest = dest
 priority_at cylmax Down dest = cylmax - dest
 
--- the cylinder of a request that waits for that sweep with priority q
+-- the cylinder of a request that waits for the sweep in this direction with priority q
 abbrev pub cylinder_of : ℕ → Direction → ℕ → ℕ
 cylinder_of cylmax Up q = q
 cylinder_of cylmax Down q = cylmax - q
@@ -76,7 +76,7 @@ waiting_here d ups downs =
 abbrev pub due : {T : Type 0} → Disk T → ℕ → Disk T
 due d n = record d { stay = n }
 
--- the same disk, with those requests counted as due
+-- the same disk, with one grant due for each request that waits for the present sweep and the cylinder under the head
 abbrev pub counted : {T : Type 0} → Disk T → List ℕ → List ℕ → Disk T
 counted d ups downs = due d (waiting_here d ups downs)
 

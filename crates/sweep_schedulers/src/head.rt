@@ -55,7 +55,8 @@ impl<T> Model for Head<T> {
     ghost invariant = { λ h. h.headpos ≤ h.cylmax };
 }
 
-/// Why `request` is refused: the cylinder is past the last one of the disk.
+/// Why `request` is refused: the cylinder is past the last one of the disk; or the request waited, and then found a
+/// disk with another last cylinder.
 #[derive(Clone, Copy, Debug, PartialEq, Eq, thiserror::Error)]
 #[error("the cylinder is past the last one")]
 pub struct OffDisk;
@@ -114,8 +115,9 @@ impl<T: Drop> Head<T> {
         }
     }
 
-    /// Creates a disk of the cylinders 0 to `cylmax` with the head at `headpos`, sweeping in `direction`. No grant is
-    /// counted as due there. The caller passes a `headpos` of at most `cylmax`.
+    /// Creates a disk of the cylinders 0 to `cylmax` with the head at `headpos`, sweeping in `direction`. The drive is
+    /// in if `drive` is `Some`, and out if it is `None`. No grant is counted as due at `headpos`. The caller passes a
+    /// `headpos` of at most `cylmax`.
     pub fn standing(drive: Option<T>, headpos: u16, direction: Direction, cylmax: u16) -> Head<T>
         requires { headpos ≤ cylmax }
         ensures { result ≡ record {
@@ -295,9 +297,9 @@ impl<T: Drop> Head<T> {
     /// Takes the drive out, with the head at `dest`, and returns it. It does so at once if the drive is in, else after
     /// one wait for the sweep that reaches `dest` from the position of the head.
     ///
-    /// Refused with `OffDisk` if `dest` is past the last cylinder: then nothing changed. A caller that has the place
-    /// inside may put in another disk instead of the first. A request that waited and then finds another last cylinder
-    /// is refused too, even if `dest` would fit, and hands the drive off as `release` does.
+    /// Refused with `OffDisk` if `dest` is past the last cylinder: then nothing changed. A process inside may put in
+    /// another disk instead of the first, through `state_mut`. A request that waited and then finds another last
+    /// cylinder is refused with `OffDisk` too, even if `dest` would fit, and hands the drive off as `release` does.
     pub fn request<R: Wait, M: Monitor<Head<T>>>(
         m: &M,
         rt: &R,

@@ -72,6 +72,7 @@ pub fn a_request_is_granted<T>()
 /// waits, reads begin only in rounds: a round begins when a write ends, and its readers are those that wait then. Only
 /// the writers before it begin, in their order.
 ///
+/// - `keeps_rest`, `in_turn`: each step keeps `rest`, and the writers begin in the order in which they came.
 /// - `writes`, `is_next`: at most k writes begin, if k writers were before it, and all of them once it is next.
 /// - `rounds`: at most one round for each of these writes, and one more if a writer was in at first.
 /// - `reads`, `at_most`: at most (k + 1) * `most` reads begin, if no round has more than `most` readers.

@@ -1,11 +1,11 @@
 //! A refusal that returns an item.
 use std::{error, fmt};
 
-/// Why an item is refused: nothing is out, so nothing can be put in. The drive is in, or no writer is in. It has the
-/// given item.
+/// Why `Head::release` or `ReadersWriters::end_write` is refused: the drive is in, or no writer is in, so nothing is
+/// out that could be put in. It has the given item.
 #[derive(Debug, Drop)]
 pub struct NotOut<T> {
-    /// The item that was given.
+    /// The drive or the value that was given to the refused call.
     pub item: T,
 }
 

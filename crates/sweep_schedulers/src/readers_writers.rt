@@ -23,8 +23,9 @@ pub const OKTOREAD: usize = 0;
 pub const OKTOWRITE: usize = 1;
 
 /// A value that up to 1,024 processes read at a time, or one process writes (Hoare 1974, Readers and Writers).
-/// Condition 0 is *oktoread* (`OKTOREAD`), condition 1 is *oktowrite* (`OKTOWRITE`); busy means that a writer is in. No
-/// reader overtakes a waiting writer, and the readers that wait when a writer ends go before the next writer.
+/// Condition 0 is *oktoread* (`OKTOREAD`), condition 1 is *oktowrite* (`OKTOWRITE`); busy means that a writer is in. A
+/// reader that enters while a writer is in or waits has to wait. The readers that wait when a writer ends go before the
+/// next writer.
 ///
 /// With a monitor `m` of `ReadersWriters::with(7u64)`, and `out`, a place of it:
 ///
@@ -205,10 +206,10 @@ impl<T: Copy> ReadersWriters<T> {
         self.busy = false;
     }
 
-    /// Starts a read, once no writer is in or waits, and returns a pass and the value. The caller waits on *oktoread*,
-    /// once, if it finds a writer in or waiting. Refused with `TooManyReaders` exactly if 1,024 readers are in then, at
-    /// once or after the wait: nothing changed. In both cases the caller leaves by a signal on *oktoread*, which
-    /// resumes the next waiting reader, if there is one.
+    /// Starts a read, and returns a pass and the value: at once, if no writer is in or waits; else after one wait on
+    /// *oktoread*, which ends when no writer is in, though writers may wait. Refused with `TooManyReaders` exactly if
+    /// 1,024 readers are in then, at once or after the wait: nothing changed. Admitted or refused, the caller leaves by
+    /// a signal on *oktoread*, which resumes the next waiting reader, if there is one.
     pub fn start_read<R: Wait, M: Monitor<ReadersWriters<T>>>(
         m: &M,
         rt: &R,

@@ -11,7 +11,7 @@ use std::sync::Wait;
 #[derive(Clone, Copy)]
 pub struct Gathering;
 
-// Arrives twice. The answer is the number of the second meeting.
+// Arrives twice. The answer is the generation of the second arrival: 1, since the parties had met once before it.
 fn acts<R: Wait, M: Monitor<Barrier>>(rt: &R, m: &M, out: M::Out) -> (M::Out, u64)
     requires { M.is_of m.now out }
     ensures { M.is_of m.now result.0 }

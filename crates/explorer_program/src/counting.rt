@@ -1,4 +1,4 @@
-//! Threads that only enter and leave: the number of their orders is known.
+//! Threads that only enter, add 1 and leave: the number of their orders is known.
 ghost use Rattle.std.specs.Prelude.{◌≡◌};
 
 use crate::tally::Tally;

@@ -5,8 +5,8 @@ use hoare_law::monitor::Monitor;
 use std::sync::Wait;
 use std::sync::atomic::{AtomicU64, Ordering};
 
-/// Visits once; the first thread visits twice in each second run. `runs` is the number of runs in which the first
-/// thread was so far: no run resets it.
+/// Visits once; in each second run the first thread visits twice. `runs` counts the runs in which the first thread has
+/// made its first visit; no run resets it.
 pub fn visit_again<R: Wait, M: Monitor<Tally>>(
     rt: &R,
     m: &M,
@@ -24,9 +24,9 @@ pub fn visit_again<R: Wait, M: Monitor<Tally>>(
     out
 }
 
-/// Visits once; but one of the first two threads stays outside: the second in the first run, and then each in turn. So
-/// in each run as many threads are to enter, but not the same ones. The first thread begins first in each run, and
-/// counts it in `runs`.
+/// Visits once; but one of the first two threads stays outside: the second in the first run, and from then on each of
+/// the two in turn. So in each run the same number of threads enter, but not the same threads. The first thread begins
+/// first in each run, and counts it in `runs`.
 pub fn visit_by_turns<R: Wait, M: Monitor<Tally>>(
     rt: &R,
     m: &M,

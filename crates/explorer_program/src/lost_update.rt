@@ -1,4 +1,4 @@
-//! Threads that read in one visit and write in the next: an addition is lost.
+//! Threads that read in one visit and write in the next: in most orders an addition is lost.
 
 use crate::tally::Tally;
 use hoare_law::monitor::Monitor;

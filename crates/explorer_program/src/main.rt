@@ -1,6 +1,6 @@
 //! Tries the orders of small programs over monitors, and prints the outcome of each. If an argument names a program, it
-//! prints only the script of that program's bad order, for `hoare_script` and `script_picture`; the outcome goes to
-//! standard error.
+//! prints only the script of that program's bad order, or of its last run if a limit is met, for `hoare_script` and
+//! `script_picture`; the outcome goes to standard error.
 #![tactic(auto)]
 
 mod answers;
@@ -173,8 +173,8 @@ fn tell_long<R: Threads + Wait + Clock + Print + Eprint + Copy + Send + 'static>
     tell_tallies(teller, &tallies);
 }
 
-// Tries programs in which a process waits for too long: philosophers that may wait for 16 steps, and six threads of
-// `OfTally::Dance` that may wait for 4.
+// Tries programs in which a process waits on a condition for more steps than the limit: philosophers with a limit of 16
+// steps, and six threads of `OfTally::Dance` with a limit of 4. Of these six it prints the script too.
 fn tell_hungry<R: Threads + Wait + Clock + Print + Eprint + Copy + Send + 'static>(
     teller: &mut Teller<'_, R>,
 ) {
@@ -213,8 +213,8 @@ fn tell_limits<R: Threads + Wait + Clock + Print + Eprint + Copy + Send + 'stati
     }
 }
 
-// Tries fifty drawn orders: of a program whose orders are all right, and of a program with bad orders, of which the
-// first order isn't one.
+// Tries at most fifty drawn orders: of a program whose orders are all right, and of a program with bad orders, of which
+// the first drawn order isn't one.
 fn tell_drawn<R: Threads + Wait + Clock + Print + Eprint + Copy + Send + 'static>(
     teller: &mut Teller<'_, R>,
 ) {

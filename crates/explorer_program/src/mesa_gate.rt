@@ -1,4 +1,4 @@
-//! A gate on a Mesa condition: a process that finds it shut waits until it is open.
+//! A gate on a Mesa condition: a process that finds it shut waits until it is notified, and then passes.
 
 use hoare_law::data::MonitorData;
 use hoare_law::monitor::{Monitor, PLAIN};

@@ -16,7 +16,7 @@ pub struct Outcome {
 }
 
 impl Outcome {
-    /// Creates the outcome of an exploration that found this. Refuses if an allocation fails.
+    /// Creates the outcome of an exploration that found `found`. Refuses if an allocation fails.
     pub fn of(alloc: Global, found: &Found) -> io::Result<Outcome> {
         Ok(Outcome {
             words: words_of(alloc, found)?,

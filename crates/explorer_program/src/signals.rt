@@ -4,8 +4,8 @@ use crate::tally::Tally;
 use hoare_law::monitor::{Monitor, PLAIN};
 use std::sync::Wait;
 
-/// Visits once. If a process waits, signals it, and then multiplies the number that it left by 10. Else waits, and then
-/// adds 1.
+/// Visits once. If a process waits, signals it, and when it is back multiplies by 10 the number that the resumed
+/// process left. Else waits, and then adds 1.
 pub fn pair_up<R: Wait, M: Monitor<Tally>>(rt: &R, m: &M, out: M::Out) -> M::Out
     requires { M.is_of m.now out }
     ensures { M.is_of m.now result }

@@ -34,8 +34,8 @@ fn turn_on<R: Wait, M: Monitor<Tally>>(rt: &R, m: &M, out: M::Out, priority: u64
     out
 }
 
-/// Does the part of thread `number` of `threads`: the first two call `turn` as partners, and the last with less
-/// urgency; the others visit once.
+/// Does the part of thread `number` of `threads`: the first two call `turn` a hundred times as partners, the last a
+/// hundred times with less urgency, and the others visit once.
 pub fn dance<R: Wait, M: Monitor<Tally>>(
     rt: &R,
     m: &M,

@@ -16,7 +16,7 @@ pub struct Supper {
     pub meals: u32,
 }
 
-// Eats `meals` times. The answer is 1, or 0 if the last `get_up` was refused.
+// Eats `meals` times. The answer is 1, or 0 if the last `get_up` was refused or `meals` is 0.
 fn eat<R: Wait, M: Monitor<Table>>(
     rt: &R,
     m: &M,

@@ -36,8 +36,7 @@ pub enum OfTally {
     Hidden,
     /// Two of three threads visit, and in each second run another two.
     HiddenOthers,
-    /// Two of three threads attempt to enter. The third waits if neither visited before it, or, if this is true,
-    /// always.
+    /// Places 1 and 2 attempt to enter. Place 0 waits if neither has visited before it, or, if this is true, always.
     Try(bool),
     /// Four threads visit twice. Their last order is wrong.
     WrongLast,
@@ -45,7 +44,7 @@ pub enum OfTally {
     StuckLast,
 }
 
-/// A program over a tally: what its threads do, and the number of runs in which its first thread was. Only
+/// A program over a tally: what its threads do, and the number of runs in which its first thread has run. Only
 /// `OfTally::Hidden` and `OfTally::HiddenOthers` count these.
 #[derive(Drop)]
 pub struct Tallied {

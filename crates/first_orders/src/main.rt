@@ -73,8 +73,8 @@ fn verdict(found: &Found) -> &'static str {
     }
 }
 
-// Prints how many orders there are, if all end right. Else this prints the first bad order, as a script for
-// `hoare_script` and `script_picture`, and its verdict on standard error.
+// Prints how many orders there are, if all end right. Else prints the first bad order, or the order of the last run if
+// a limit is met, as a script for `hoare_script` and `script_picture`, and the verdict on standard error.
 fn main(rt: HostRuntime) -> io::Result<()> {
     let alloc = rt.alloc();
     let found = explore(rt, alloc, Workers, Limits::USUAL)?;

@@ -1,4 +1,4 @@
-//! What all tests compare: values, and how they read.
+//! Comparisons for all tests: of two values, and of a value's text with the text that is wanted.
 
 use std::alloc::Global;
 use std::fmt::{Debug, Display};
@@ -10,7 +10,7 @@ pub fn expect_same<T: Copy + Debug + PartialEq, R: Abort>(rt: &R, found: T, want
     assert_eq!(rt; found, wanted);
 }
 
-/// Fails the test if `value` isn't shown as `wanted`, or if out of memory.
+/// Fails the test if the text of `value` isn't `wanted`, or if out of memory.
 pub fn reads_as<T: Display, R: Abort>(rt: &R, alloc: Global, value: &T, wanted: &str) {
     let Ok(shown) = format!(in alloc; "{value}") else {
         panic!(rt; "no memory")

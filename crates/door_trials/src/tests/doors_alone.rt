@@ -1,4 +1,5 @@
-//! Each door on one thread: what `make` refuses, and each call once at each number of places.
+//! Each door on one thread: what `make` refuses, and the calls of `calls_all` and attempts to enter at each number of
+//! places.
 ghost use Rattle.std.specs.Prelude.{◌≡◌, vec_len, All};
 ghost use Rattle.test_support.specs.Numbered.{IsNumbered};
 
@@ -16,7 +17,8 @@ use test_support::{on_any_door, on_baton_door, on_ticket_door};
 use ticket_door::door::TicketDoor;
 use wait_book::steps::MakeRefused;
 
-// Returns what `make` gives back of a baton door of `N` conditions that it refuses: the data, and the refusal.
+// Returns what `make` gives back of a baton door of `N` conditions that it refuses: the data, and the refusal. Fails
+// the test if `make` doesn't refuse.
 fn refused_baton<const N: usize, R: Abort>(
     rt: &R,
     alloc: Global,
@@ -28,7 +30,8 @@ fn refused_baton<const N: usize, R: Abort>(
     (data.value, refused)
 }
 
-// Returns what `make` gives back of a ticket door of `N` conditions that it refuses: the data, and the refusal.
+// Returns what `make` gives back of a ticket door of `N` conditions that it refuses: the data, and the refusal. Fails
+// the test if `make` doesn't refuse.
 fn refused_ticket<const N: usize, R: Abort>(
     rt: &R,
     alloc: Global,
@@ -41,7 +44,7 @@ fn refused_ticket<const N: usize, R: Abort>(
     (data.value, refused)
 }
 
-// Fails the test unless both doors of `N` conditions refuse this number of places, and return the data.
+// Fails the test unless both doors of `N` conditions refuse this number of places with `wanted`, and return the data.
 fn both_refuse<const N: usize, R: Abort>(
     rt: &R,
     alloc: Global,
@@ -92,7 +95,7 @@ fn one_calls_all<R: Wait + Abort, M: Monitor<Tally>>(
     outs
 }
 
-// All places act in the row.
+// The places that the row needs act, all on this thread: the last, or the last two. Returns all places.
 fn acts<R: Wait + Abort, M: Monitor<Tally>>(
     rt: &R,
     m: &M,

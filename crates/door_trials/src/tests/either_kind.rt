@@ -16,7 +16,7 @@ use std::sync::Wait;
 use test_support::on_any_door::{closed, made};
 use test_support::tally::{Tally, calls_all, tries_once};
 
-/// Number of rounds of each place of a diary.
+/// Number of visits of each worker of a diary.
 const ROUNDS: u64 = 60;
 
 #[test]

@@ -1,5 +1,5 @@
-//! Tests of the judge of histories: with a history, written by hand, that keeps all of its rules, and with lines that
-//! break each rule.
+//! Tests of the judge of histories (`test_support::history`): with a history, written by hand, that keeps all rules,
+//! and with lines that break each rule.
 
 use crate::tests::compared::expect_same;
 use std::alloc::Global;
@@ -10,7 +10,8 @@ use test_support::history::{Judged, judge};
 /// A line as written here: the place, what it did, and the stamp.
 type Written = (usize, Act, u64);
 
-/// A history that keeps all rules, of six places that wait on one of Hoare's conditions and on a Mesa condition.
+/// A history that keeps all rules, of six places. Five of them wait, on condition 0, one of Hoare's, or on condition 2,
+/// a Mesa condition.
 const LAWFUL: [Written; 46] = [
     (0, Act::EntersWith, 0),
     (0, Act::Waits(0, 5), 1),
@@ -20,11 +21,11 @@ const LAWFUL: [Written; 46] = [
     (1, Act::Waits(0, 3), 5),
     (3, Act::EntersWith, 5),
     (3, Act::Signals(0), 7),
-    (2, Act::GoesOn(0), 7), // the least priority, for longer than 1
+    (2, Act::GoesOn(0), 7), // the least priority, and a longer wait than place 1
     (2, Act::Signals(0), 9),
     (1, Act::GoesOn(0), 9),
     (1, Act::Leaves, 11),
-    (3, Act::IsBack, 11), // it signalled before 2
+    (3, Act::IsBack, 11), // it signalled before place 2
     (3, Act::Signals(1), 13),
     (3, Act::HearsNobody, 13),
     (3, Act::Passes(1), 15), // no process waits there
@@ -44,7 +45,7 @@ const LAWFUL: [Written; 46] = [
     (1, Act::Signals(0), 29),
     (0, Act::GoesOn(0), 29),
     (0, Act::Leaves, 31),
-    (1, Act::IsBack, 31), // before those notified
+    (1, Act::IsBack, 31), // before the notified places
     (1, Act::Waits(0, 0), 33),
     (3, Act::GoesOn(2), 33),
     (3, Act::Passes(0), 35),
@@ -60,7 +61,7 @@ const LAWFUL: [Written; 46] = [
     (5, Act::Leaves, 45),
 ];
 
-/// Lines that break that history, each with the number of the line that it replaces.
+/// Lines that break `LAWFUL`, each with the number, from 0, of the line that it replaces.
 const UNLAWFUL: [(usize, Written); 38] = [
     // the first process enters, has one of the places, and finds the stamp 0
     (0, (0, Act::Leaves, 0)),
@@ -76,7 +77,7 @@ const UNLAWFUL: [(usize, Written); 38] = [
     (2, (0, Act::GoesOn(0), 1)),
     (2, (1, Act::IsBack, 1)),
     (18, (0, Act::EntersWith, 17)),
-    // the resumed waiter has the least priority, waits for the longest, and on this condition
+    // the resumed waiter has the least priority, among equal ones waits for the longest, and waits on this condition
     (8, (0, Act::GoesOn(0), 7)),
     (8, (1, Act::GoesOn(0), 7)),
     (8, (2, Act::GoesOn(1), 7)),
@@ -93,7 +94,7 @@ const UNLAWFUL: [(usize, Written); 38] = [
     (12, (4, Act::EntersWith, 11)),
     (16, (4, Act::EntersWith, 15)),
     (32, (3, Act::GoesOn(2), 31)),
-    // a waiter on the condition of a pass resumes before those notified
+    // a waiter on the condition of a pass resumes before the notified places
     (36, (2, Act::GoesOn(2), 35)),
     // a process that notifies stays inside, and learns if there was a waiter
     (24, (1, Act::HasNotified(false), 23)),
@@ -113,8 +114,9 @@ const UNLAWFUL: [(usize, Written); 38] = [
     (44, (4, Act::GoesOn(2), 43)),
 ];
 
-// Judges the lawful history, with the line numbered `at`, if there is one, replaced by `unlawful`. Returns the number
-// of the unlawful line, and how often a signal, a notification and a resumption of a notified process had a choice.
+// Judges `LAWFUL`, with the line numbered `at`, if there is one, replaced by `unlawful`. Returns the number of the
+// first unlawful line, if there is one, and how often a signal or pass, a notify or broadcast, and the resumption of a
+// notified process had a choice.
 fn judged_with<R: Abort>(
     rt: &R,
     alloc: Global,

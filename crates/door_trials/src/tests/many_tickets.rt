@@ -1,4 +1,5 @@
-//! The ticket door on one thread: as many places as a door can have, past the last number.
+//! The ticket door on one thread, with as many places as a door can have: their tickets wrap around past the last
+//! number.
 ghost use Rattle.std.specs.Prelude.{◌≡◌, ◌≤◌, ℕ, [], All, map, vec_len, vec_capacity};
 ghost use Rattle.std.specs.VecDeque.{deque_len, deque_capacity};
 ghost use Rattle.door_frame.specs.Places.{HasPlace};

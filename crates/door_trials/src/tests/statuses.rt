@@ -66,7 +66,7 @@ fn hands_over<R: Wait + Abort + Clock, M: ShowsStatus>(rt: &R, m: &M, out: M::Ou
     (out, m.seen().holder == Holder::Owed(0))
 }
 
-/// Place 0 waits, again and again. Place 1 hands the monitor off to it each time, and returns 1 if the status showed so
+/// Place 0 waits `ROUNDS` times. Place 1 hands the monitor off to it each time, and returns 1 if the status showed so
 /// in one of the rounds.
 pub fn waits_or_hands_over<R: Wait + Abort + Clock, M: ShowsStatus>(
     rt: &R,
@@ -92,8 +92,8 @@ pub fn waits_or_hands_over<R: Wait + Abort + Clock, M: ShowsStatus>(
     (out, u64::from(was_owed))
 }
 
-/// Place 0 stays inside until an entering thread is seen, and returns the number seen, which must be 1. Place 1 enters
-/// when place 0 is inside.
+/// Place 0 stays inside until an entering thread is seen, for at most 20 seconds, and returns the number seen, which
+/// must be 1. Place 1 enters when place 0 is inside.
 pub fn sees_a_newcomer<R: Wait + Abort + Clock, M: ShowsStatus>(
     rt: &R,
     m: &M,
@@ -122,8 +122,8 @@ pub fn sees_a_newcomer<R: Wait + Abort + Clock, M: ShowsStatus>(
     (m.leave(rt, inside), seen)
 }
 
-// Three places take tickets. The status shows the place whose ticket is served as inside, and the others as entering
-// threads.
+// Three places take tickets, enter and leave. Fails the test unless the status shows the place whose ticket is served
+// as inside, the others with tickets as entering threads, and at the end neither.
 fn ask_and_come_in<D: MonitorData + Send, R: Wait + Abort>(
     rt: &R,
     door: &TicketDoor<D>,

@@ -1,4 +1,4 @@
-//! A door whose calls are steps, by its places as values: what each act returns, on one thread.
+//! A door whose calls don't block (`door_place`): what each act of its places returns, on one thread.
 use crate::tests::compared::expect_same;
 use door_place::act::{
     Broadcast, Leave, Notify, Set, Signal, SignalLeave, TryEnter, TryReturn, Wait,
@@ -9,7 +9,8 @@ use hoare_law::event::Sizes;
 use std::alloc::Global;
 use std::process::Abort;
 
-// Makes a door of two places, one of Hoare's conditions and one Mesa condition, with the word 7 in it.
+// Makes a door of two places, one of Hoare's conditions and one Mesa condition, with the word 7 in it. Fails the test
+// if `make` refuses.
 fn two_places<R: Abort>(rt: &R, alloc: Global) -> Keeper {
     let sizes = Sizes {
         places: 2,
@@ -22,7 +23,7 @@ fn two_places<R: Abort>(rt: &R, alloc: Global) -> Keeper {
     keeper
 }
 
-// Takes one of the keeper's places.
+// Takes one of the keeper's places. Fails the test if none is left.
 fn place_of<R: Abort>(rt: &R, keeper: &mut Keeper) -> Place {
     let Ok(place) = keeper.give_out() else {
         panic!(rt; "no place is left")
@@ -109,7 +110,8 @@ fn code_of(place: &mut Place, call: Call) -> u64 {
 // A step: the number of the place, its call, and the code that the call must return.
 type Step = (usize, Call, u64);
 
-// Both places make their calls, in this order. (The checker takes some seconds for each act that is written out.)
+// Both places make their calls, in this order. Fails the test unless each returns the code in its step. (The checker
+// takes some seconds for each act that is written out.)
 fn walk<R: Abort>(rt: &R, zero: &mut Place, one: &mut Place, steps: &[Step]) {
     for (at, (number, call, wanted)) in steps.iter().enumerate() {
         let code = if *number == 0 {
@@ -138,7 +140,7 @@ const SIGNALS: [Step; 5] = [
     (0, Call::TryReturn, 64),
 ];
 
-// Place 0 leaves, and the signaller is back.
+// Place 0 leaves, and the signaller is back and leaves.
 const LEAVES: [Step; 4] = [
     (0, Call::Leave, 1), // back to the signaller
     (0, Call::TryEnter, 102),
@@ -209,7 +211,7 @@ fn acts_are_refused_in_order(rt: HostRuntime) {
     closes_with(&rt, keeper, one, zero, 7);
 }
 
-// Fails the test unless the keeper can be closed once both places were given back, and not before.
+// Fails the test unless the keeper can be closed once both places were given back, and not before, and `value` is left.
 fn closes_with<R: Abort>(rt: &R, mut keeper: Keeper, mut a: Place, mut b: Place, value: u64) {
     expect_same(rt, a.give_back(), 0);
     keeper.collect();

@@ -108,8 +108,8 @@ pub fn enter_and_write<R: Wait>(
     write_and_leave(door, door.come_in(rt, asked), digit)
 }
 
-// Place a enters at once, and leaves with a signal on a condition without waiters. It meets b; b takes a ticket and
-// enters. Returns a and b, true if a resumed a waiter, and b's ticket.
+// Place a enters, and leaves with a signal on a condition without waiters. It meets b; b takes a ticket, enters and
+// leaves. Returns a and b, true if a resumed a waiter, and b's ticket.
 fn hands_up_and_meets<R: Wait>(
     rt: &R,
     door: &TicketDoor<Tally>,
@@ -153,9 +153,9 @@ pub fn three_places<R: Abort>(
 }
 
 /// On a door with the first ticket `first` three places take tickets, in the order c, a, b, and enter by them; c writes
-/// 7. Then a leaves with a signal on a condition without waiters, and meets b, which takes another ticket. At last c
-/// enters again, and writes 7 once more. Returns the tickets of c, a, b and again b, true if a resumed a waiter, and
-/// the tally.
+/// 7. Then a enters again, leaves with a signal on a condition without waiters, and meets b, which takes another ticket
+/// and enters. At last c enters again, and writes 7 once more. Returns the tickets of c, a, b and again b, true if a
+/// resumed a waiter, and the tally.
 fn three_ask<R: Wait + Abort>(rt: &R, alloc: Global, first: u64) -> ([u64; 4], bool, u64) {
     let (door, (a, b, c)) = three_places(rt, alloc, first);
     let ((c, a, b), tickets) = three_take_tickets(&door, c, a, b);
@@ -247,7 +247,7 @@ fn tries_between<R: Wait + Abort>(rt: &R, alloc: Global, first: u64) -> ((u64, u
     tried
 }
 
-// An attempt doesn't succeed while another place has a ticket, and takes the ticket that is served.
+// An attempt fails while another place has a ticket. One that succeeds takes the ticket that is served.
 #[test]
 fn a_try_takes_the_ticket_between(rt: HostRuntime) {
     for (first, late) in [

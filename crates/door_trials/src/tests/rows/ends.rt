@@ -1,5 +1,5 @@
-//! Waits of the greatest priority on each of eight conditions, the first half Hoare's and the others Mesa conditions:
-//! each call that resumes a waiter resumes these.
+//! Waits with the greatest priority number, 2^64 - 1, on each of eight conditions, the first half Hoare's and the
+//! others Mesa conditions: each call that resumes a waiter resumes these.
 ghost use Rattle.std.specs.Prelude.{◌≡◌, ◌<◌};
 
 use crate::tests::awaited::watch;
@@ -54,7 +54,7 @@ impl MonitorData for Resumed {
     ghost ready_inv = { λ c p s q h. tt };
 }
 
-// Waits on `condition` with the greatest priority, and counts the resumption.
+// Waits on `condition` with the greatest priority number, and counts the resumption.
 fn waits<R: Wait, M: Monitor<Resumed>>(rt: &R, m: &M, out: M::Out, condition: usize) -> M::Out
     requires of { M.is_of m.now out }
     requires in_range { condition < 8 }
@@ -67,7 +67,8 @@ fn waits<R: Wait, M: Monitor<Resumed>>(rt: &R, m: &M, out: M::Out, condition: us
     m.leave(rt, inside)
 }
 
-// Resumes or notifies the waiter on `condition`, and stays inside. Returns true if there was one.
+// By `signal` or `notify` resumes or notifies the waiter on `condition`, and stays inside. Returns true if there was
+// one.
 fn resumes<R: Wait, M: Monitor<Resumed>>(
     rt: &R,
     m: &M,
@@ -87,7 +88,8 @@ fn resumes<R: Wait, M: Monitor<Resumed>>(
     (inside, told)
 }
 
-// Resumes or notifies the waiter on `condition` by the other call, and leaves. Returns true if there was one waiter.
+// By `signal_leave` or `broadcast` resumes or notifies the waiter on `condition`, and leaves. Returns true if there was
+// one waiter.
 fn resumes_and_leaves<R: Wait, M: Monitor<Resumed>>(
     rt: &R,
     m: &M,
@@ -107,7 +109,8 @@ fn resumes_and_leaves<R: Wait, M: Monitor<Resumed>>(
     (m.leave(rt, inside), notified == 1)
 }
 
-// Resumes the waiter on `condition` twice, once by each call. Returns true if there was a waiter both times.
+// Resumes the waiter on `condition` twice, first by `resumes` and then by `resumes_and_leaves`. Returns true if there
+// was a waiter both times.
 fn resumes_twice<R: Wait + Abort, M: Monitor<Resumed>>(
     rt: &R,
     m: &M,
@@ -126,8 +129,8 @@ fn resumes_twice<R: Wait + Abort, M: Monitor<Resumed>>(
     (out, first && second)
 }
 
-// Place 0 waits twice on each condition. Place 1 resumes it each time. Returns the number of conditions on which place
-// 0 waited both times, if this is place 1.
+// Place 0 waits twice on each condition, and returns 0. Place 1 resumes it each time, and returns the number of
+// conditions on which it found a waiter both times.
 fn waits_or_resumes<R: Wait + Abort, M: Monitor<Resumed>>(
     rt: &R,
     m: &M,

@@ -53,8 +53,9 @@ fn resume_all<R: Wait, M: Monitor<Order>>(rt: &R, m: &M, inside: M::In) -> M::In
     inside
 }
 
-// Each place waits on the condition of its number modulo 8, and the greater number resumes first. The last place to
-// enter resumes the others, and then waits on condition 0. The first place that enters a second time resumes it.
+// Each place but the last to enter waits on the condition of its number modulo 8, and the greater number resumes first.
+// The last place to enter resumes the others, and then waits on condition 0. The first place that enters a second time
+// resumes it.
 fn waits_in_row<R: Wait, M: Monitor<Order>>(
     rt: &R,
     m: &M,

@@ -20,7 +20,7 @@ pub const ROUNDS: u64 = 200;
 /// then parks for some 0.15 milliseconds at a time.
 const STAY: u64 = 3;
 
-/// The number of places that visit. As many others keep a processor busy.
+/// The number of places that visit. As many other places keep a processor busy each.
 pub const VISITORS: usize = 8;
 
 /// The number of places: those that visit, and those that keep a processor busy.
@@ -66,7 +66,7 @@ fn stays_long<R: Wait + Abort + Clock, M: Monitor<Tally>>(
     out
 }
 
-// Enters while the other place is inside, adds one and leaves.
+// Enters after the sign, while the other place is inside, adds one, leaves, and gives a sign.
 fn comes_uncalled<R: Wait + Abort + Clock, M: Monitor<Tally>>(
     rt: &R,
     m: &M,

@@ -36,7 +36,7 @@ const ROUNDS: u64 = 300;
 /// longer.
 const TICKET_ROUNDS: u64 = 60;
 
-// Returns true if fewer than six processes wait, so that at least two workers don't wait.
+// Returns true if fewer than six processes wait: if the caller waits too, at least two workers still don't.
 fn may_wait<M: Monitor<Diary>>(m: &M, inside: &M::In) -> bool
     requires { M.is_of_in m.now inside.now }
 {
@@ -68,7 +68,7 @@ fn visit<R: Wait, M: Monitor<Diary>>(rt: &R, m: &M, out: M::Out, place: usize, l
     pass(rt, m, inside, place, condition % 2, lot)
 }
 
-// Makes `rounds` visits, and notes that this worker is finished.
+// Makes `rounds` visits, drawn from `day` and `place`, and notes that this worker is finished.
 fn work<R: Wait, M: Monitor<Diary>>(
     rt: &R,
     m: &M,
@@ -137,7 +137,7 @@ pub fn works_or_sweeps<R: Wait + Clock, M: Monitor<Diary>>(
     }
 }
 
-/// Creates a diary with room for all that the places write. Fails the test if out of memory.
+/// Creates a diary with room for 100,000 lines. Fails the test if out of memory.
 pub fn empty_diary<R: Abort>(rt: &R, alloc: Global) -> Diary {
     let Ok(lines) = Vec::with_capacity(alloc, 100_000) else {
         panic!(rt; "no memory")
@@ -145,8 +145,9 @@ pub fn empty_diary<R: Abort>(rt: &R, alloc: Global) -> Diary {
     Diary::new(lines)
 }
 
-/// Fails the test unless the diary is whole and a legal history in which all workers finished. It must also be long
-/// enough, with enough choices of each kind.
+/// Fails the test unless the diary is whole and a legal history in which all workers finished. It must also have at
+/// least 16 * `rounds` lines. And each of these must have had a choice at least `rounds` / 20 times: signals and
+/// passes, notifies and broadcasts, resumptions of notified processes.
 pub fn agrees<R: Abort>(rt: &R, diary: &Diary, rounds: u64) {
     let lines = diary.lines();
     let Judged {

@@ -38,7 +38,7 @@ enum TallyRow<'a> {
     WhoIsHandedTheMonitorIsSeen,
     /// Place 1 enters after the sign.
     ANewcomerIsSeen(&'a AtomicBool),
-    /// The places signal to each other that they are inside.
+    /// The places give each other signs: that place 0 is inside, and that place 1 was inside.
     ANewcomerThatNobodyCallsComesIn(&'a Signs),
     /// The visitors that are done are counted.
     EightComeInBesideEightBusyThreads(&'a AtomicUsize),

@@ -1,4 +1,4 @@
-//! Places enter in the order of their tickets, whichever polls first.
+//! Places enter in the order of their tickets, whichever polls first; and `hand_up` resumes a waiter.
 ghost use Rattle.std.specs.Prelude.{◌≡◌};
 
 use crate::tests::awaited::{act_all, watch};
@@ -138,7 +138,7 @@ fn wanted(row: TicketRow<'_>) -> (usize, &'static [u64], u64) {
     }
 }
 
-// Also with first tickets from which the tickets of the waiting place wrap around from the last number to 0.
+// Also with first tickets from which the tickets wrap around from the last number to 0.
 #[test]
 fn tickets_on_a_ticket_door(host: HostRuntime) {
     let (rt, alloc) = (&host, host.alloc());

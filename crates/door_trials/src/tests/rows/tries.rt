@@ -1,5 +1,5 @@
-//! Attempts to enter: one succeeds if the monitor is free, and otherwise leaves the place where it was. In rows on both
-//! doors.
+//! Attempts to enter: an attempt succeeds if the monitor is free, and otherwise leaves the place outside. In rows on
+//! both doors.
 ghost use Rattle.std.specs.Prelude.{◌≡◌, vec_len, All};
 ghost use Rattle.test_support.specs.Numbered.{IsNumbered};
 
@@ -17,7 +17,7 @@ use test_support::tally::{Tally, add_one, write_digit};
 /// Number of places that enter and leave, each on a thread of its own.
 pub const PLACES: usize = 4;
 
-/// Number of visits of each of these places.
+/// Number of visits of each of the `PLACES` places.
 pub const ROUNDS: u64 = 500;
 
 /// The most attempts of a place before it blocks in `enter`.
@@ -63,7 +63,7 @@ fn tries_while_held<R: Wait, M: Monitor<Tally>>(
 }
 
 /// The last two places of a monitor make three attempts, as in `tries_while_held`. Fails the test unless the first and
-/// the third succeed.
+/// the third succeed, and the second doesn't.
 pub fn both_try<R: Wait + Abort, M: Monitor<Tally>>(rt: &R, m: &M, outs: Vec<M::Out>) -> Vec<M::Out>
     requires of { All (M.is_of m.now) outs.items }
     requires numbered { IsNumbered M.place outs.items }

@@ -15,7 +15,7 @@ use test_support::tally::{Tally, write_digit};
 /// CPU time in milliseconds: a place that sleeps in a call uses less than this for it.
 const AWAKE: u64 = 30;
 
-/// How long the other place makes it sleep, in milliseconds.
+/// How long each place keeps the other in its call, in milliseconds.
 const ASLEEP: u64 = 300;
 
 // Returns the CPU time that this thread has used, in milliseconds. Fails the test if there is no clock.

@@ -1,5 +1,5 @@
-//! Tests of whole job files, of workers that meet and are at work at once, of a job that is held up, and of the
-//! greatest number of workers.
+//! Tests of whole job files, of the order of a worker's acts, of workers that meet and are at work at once, of a job
+//! that is held up, and of the same report from 1 to 16 workers.
 
 mod acts;
 mod at_once;

@@ -1,5 +1,5 @@
 //! Tests the order of a worker's acts: at each call of its gate another thread reads the data of the doors. Reviewed
-//! only, since no such reading can find it: that what is done is kept before `end`.
+//! only, since the doors don't show it: that the worker has kept its result when it calls `end`.
 ghost use Rattle.std.specs.Prelude.{◌≡◌};
 ghost use Rattle.disk_service.specs.Doors.{AreThere, IsSeat};
 
@@ -34,8 +34,8 @@ enum Call {
 // Number of calls of the gate, with three jobs.
 const CALLS: usize = 6;
 
-// What the doors have: how many jobs the totals count, how many the board has, and if both the buffer and the drive are
-// in.
+// What the doors have: how many jobs the totals count, how many the board counts as done, and if both the buffer and
+// the drive are in.
 #[derive(Clone, Copy, Debug, PartialEq, Eq)]
 struct Found {
     counted: u64,
@@ -216,8 +216,8 @@ fn after(done: u32) -> Found {
     }
 }
 
-// Fails unless at each call all jobs before it are done, and at its end the job itself too, and the worker kept them in
-// this order.
+// Fails the test unless at each call of the gate exactly the jobs before it are done, at `end` also its own job, with
+// the buffer and the drive in; and the worker kept the jobs in this order.
 fn assert_in_order<R: Abort>(rt: &R, calls: &[(Call, Found)], kept: &[Done]) {
     let wanted: [(Call, Found); CALLS] = [
         (Call::Begin(0), after(0)),

@@ -26,13 +26,13 @@ const FOUR: Size = Size {
     jobs: 12,
 };
 
-// The greatest number of workers, each with as many jobs.
+// The greatest number of workers, and 16 jobs for each.
 const SIXTEEN: Size = Size {
     workers: 16,
     jobs: 256,
 };
 
-// Number of polls of a job for the others of its group, with a yield after each.
+// The most polls of a job for the others of its group, with a yield after each.
 const TURNS: u32 = 10_000_000;
 
 // What the gate sees of the jobs.
@@ -167,8 +167,8 @@ fn some_jobs(alloc: Global, size: Size) -> Result<Jobs, Fail> {
     }
 }
 
-// Fails unless as many different jobs as there are workers began before the first ended. Each job has to have begun
-// once and ended once after that, and there may never have been more jobs at work than workers.
+// Fails the test unless as many different jobs as there are workers began before the first ended. Each job has to have
+// begun once and ended once after that, and there may never have been more jobs at work than workers.
 fn assert_at_once<R: Abort>(rt: &R, answer: Result<Report, ServiceFault>, gate: &AtOnce) {
     let Ok(report) = answer else {
         panic!(rt; "no report")
@@ -186,7 +186,7 @@ fn assert_at_once<R: Abort>(rt: &R, answer: Result<Report, ServiceFault>, gate: 
     expect_same(rt, gate.seen(), wanted);
 }
 
-// Does these jobs on doors of this kind, and fails unless `assert_at_once` holds.
+// Does jobs of this size on doors of this kind. Fails the test unless `assert_at_once` passes.
 fn assert_served<R: Threads + Wait + Abort + Sync>(
     rt: &R,
     alloc: Global,

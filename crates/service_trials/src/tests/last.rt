@@ -1,5 +1,5 @@
-//! The first job is held up until other workers have done all other jobs. A service with one worker for them all fails
-//! the test.
+//! The first job is held up until other workers have done all other jobs. A service in which one worker does all jobs
+//! fails the test.
 use crate::tests::compared::expect_same;
 use disk_service::{Done, Gate, Jobs, Report, ServiceFault, serve, serve_tickets};
 use std::alloc::Global;
@@ -10,7 +10,7 @@ use std::thread;
 
 const JOBS: usize = 16;
 
-// Number of polls of the first job for the end of all others, with a yield after each.
+// The most polls of the first job for the end of all others, with a yield after each.
 const TURNS: u32 = 10_000_000;
 
 // How many jobs have ended, and whether the first job stopped polling before all others had ended.
@@ -66,7 +66,7 @@ fn equal_jobs(alloc: Global) -> Result<Jobs, Fail> {
     }
 }
 
-// Fails unless the report has the jobs in their order, and the first job saw the end of all others.
+// Fails the test unless the report has the jobs in their order, and the first job saw the end of all others.
 fn assert_in_order<R: Abort>(rt: &R, answer: Result<Report, ServiceFault>, gate: &FirstLast) {
     let Ok(report) = answer else {
         panic!(rt; "no report")

@@ -8,7 +8,7 @@ use std::sync::atomic::{AtomicBool, Ordering};
 use std::test::Fail;
 use std::thread;
 
-// Number of polls of a job for the beginning of the other, with a yield after each.
+// The most polls of a job for the beginning of the other, with a yield after each.
 const TURNS: u32 = 10_000_000;
 
 // Which of two jobs have begun, and whether one of them stopped polling before the other began.
@@ -75,7 +75,7 @@ fn two_jobs(alloc: Global) -> Result<Jobs, Fail> {
     }
 }
 
-// Fails unless the report is right and the two jobs have met.
+// Fails the test unless the report is right and the two jobs have met.
 fn assert_met<R: Abort>(rt: &R, answer: Result<Report, ServiceFault>, meeting: &Meeting) {
     let Ok(report) = answer else {
         panic!(rt; "no report")

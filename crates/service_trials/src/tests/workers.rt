@@ -1,4 +1,4 @@
-//! The report is the same with any number of workers, byte for byte, and it is the report that is computed here
+//! The report is the same with 1, 2, 4 and 16 workers, byte for byte, and it is the report that is computed here
 //! independently.
 use disk_service::{Jobs, NoGate, ServiceFault, serve, write_report};
 use std::alloc::{AllocError, Global};
@@ -10,7 +10,7 @@ use std::thread::Threads;
 
 const JOBS: u32 = 4096;
 
-// Returns cylinders without a visible pattern.
+// Returns `JOBS` cylinders without a visible pattern.
 fn drawn(alloc: Global) -> Result<Vec<u16>, AllocError> {
     let mut cylinders = Vec::new(alloc);
     let mut lot = 1u32;
@@ -21,7 +21,8 @@ fn drawn(alloc: Global) -> Result<Vec<u16>, AllocError> {
     Ok(cylinders)
 }
 
-// Returns the report of jobs on these cylinders. The sum of the blocks was found by another program (awk).
+// Returns the report of jobs on `cylinders`, which are those of `drawn`. The sum of their blocks was found by another
+// program (awk).
 fn wanted(alloc: Global, cylinders: &[u16]) -> Result<Vec<u8>, Fail> {
     let mut text = Vec::new(alloc);
     for (job, cylinder) in cylinders.iter().enumerate() {

@@ -4,7 +4,8 @@ use disk_jobs::{BadJobs, Done, Jobs, Report, ServiceFault, gather};
 use std::alloc::Global;
 use std::test::Fail;
 
-// Returns what is gathered of these results, with two jobs, on the cylinders 5 and 6.
+// Returns what is gathered with two jobs, on the cylinders 5 and 6, of these results (job and cylinder), of totals of
+// `jobs` jobs and the sum `sum`, and of a board that has `done` jobs.
 fn gathered(
     alloc: Global,
     results: &[(u32, u16)],

@@ -81,7 +81,7 @@ fn long_lines(rt: HostRuntime) -> Result<(), Fail> {
     Ok(())
 }
 
-// A reader that gives the header, if there is one, and then one line without end.
+// A reader that gives the header, if there is one, and then repeats `line` without end, a byte at each call.
 #[derive(Drop)]
 struct Endless<'a> {
     header: &'a [u8],

@@ -1,4 +1,4 @@
-//! Tests of the kinds, and of the faults with their texts and statuses.
+//! Tests of the kinds, of the faults with their texts and statuses, and of the texts of the refusals of jobs.
 use crate::tests::compared::expect_same;
 use disk_jobs::{BadJobs, Kind, ServiceFault, kind_of};
 use std::io::Write;

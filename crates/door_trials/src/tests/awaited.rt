@@ -1,5 +1,5 @@
-//! What a test awaits: if it doesn't happen in time, the test fails. A library may not end the process. So this crate
-//! and `scheduler_trials` have these functions each, and `test_support` has what they call.
+//! What a test awaits: if it doesn't happen in time, the test fails. A library may not end the process. So
+//! `door_trials` and `scheduler_trials` have these functions each, and `test_support` has what they call.
 ghost use Rattle.std.specs.Prelude.{◌≡◌, ℕ, IfOk, All, vec_len};
 ghost use Rattle.std.specs.Fork.{AcceptsJobs, GivesJobs};
 ghost use Rattle.test_support.specs.Numbered.{IsNumbered};

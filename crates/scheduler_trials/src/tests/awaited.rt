@@ -1,5 +1,5 @@
-//! What a test awaits: if it doesn't happen in time, the test fails. A library may not end the process. So each crate
-//! of trials has these functions, and `test_support` has what they call.
+//! What a test awaits: if it doesn't happen in time, the test fails. A library may not end the process. So
+//! `door_trials` and `scheduler_trials` have these functions each, and `test_support` has what they call.
 ghost use Rattle.std.specs.Prelude.{◌≡◌, ℕ, IfOk, All, vec_len};
 ghost use Rattle.std.specs.Fork.{AcceptsJobs, GivesJobs};
 ghost use Rattle.test_support.specs.Numbered.{IsNumbered};
@@ -16,7 +16,7 @@ use std::thread::Threads;
 use test_support::limit::is_set_in_time;
 use test_support::running;
 
-/// Polls `ended` until it is set. If that takes longer than the limit, ends the test as failed, with its threads not
+/// Polls `ended` until it is set. If `is_set_in_time` returns false, ends the test as failed, with its threads not
 /// joined.
 fn await_flag<R: Abort + Clock>(rt: &R, ended: &AtomicBool) {
     if !is_set_in_time(rt, ended) {
@@ -24,7 +24,8 @@ fn await_flag<R: Abort + Clock>(rt: &R, ended: &AtomicBool) {
     }
 }
 
-/// Does `work` on another thread, while this one watches the limit. Returns its result.
+/// Does `work` on another thread, while this one watches the time. Returns its result. Fails the test if `work` doesn't
+/// end in time.
 fn within<R: Threads + Abort + Clock + Sync, F: FnOnce() -> T + Send, T: Send>(rt: &R, work: F) -> T
     requires { F.pre work }
     ensures { F.post work result }
@@ -98,8 +99,8 @@ pub fn act_all<
     parted
 }
 
-/// Enters when `waiting` processes wait on `condition`. Fails the test if that isn't seen within the visits of
-/// `running::watch`.
+/// Enters again and again until `waiting` processes wait on `condition`, and then returns the place inside. Fails the
+/// test if that isn't so within the visits of `running::watch`.
 pub fn watch<D: MonitorData, R: Wait + Abort, M: Monitor<D>>(
     rt: &R,
     m: &M,
@@ -118,7 +119,8 @@ pub fn watch<D: MonitorData, R: Wait + Abort, M: Monitor<D>>(
     }
 }
 
-/// Polls `sign`, which another place sets, and clears it. Fails the test if it isn't set in time.
+/// Polls `sign`, which another place sets, and clears it. Fails the test if it isn't set in the time of
+/// `running::sign_came`.
 pub fn await_sign<R: Abort + Clock>(rt: &R, sign: &AtomicBool) {
     if !running::sign_came(rt, sign) {
         panic!(rt; "no sign came");

@@ -11,11 +11,6 @@ pub fn expect_same<T: Copy + Debug + PartialEq, R: Abort>(rt: &R, found: T, want
     assert_eq!(rt; found, wanted);
 }
 
-/// Fails the test if something was found, and shows it.
-pub fn expect_none<T: Copy + Debug, R: Abort>(rt: &R, found: Option<T>) {
-    assert!(rt; found.is_none(), "found {found:?}");
-}
-
 /// Fails the test if `value` isn't shown as `wanted`, or if out of memory.
 pub fn reads_as<T: Display, R: Abort>(rt: &R, alloc: Global, value: &T, wanted: &str) {
     let Ok(shown) = format!(in alloc; "{value}") else {

@@ -2,8 +2,8 @@
 //! what an alarm clock is.
 ghost use Rattle.std.specs.Prelude.{◌≡◌};
 
-use crate::tests::compared::{expect_none, expect_same};
-use crate::tests::rows::shared_log::{Log, await_others};
+use crate::tests::compared::expect_same;
+use crate::tests::rows::shared_log::{Log, Rules, await_others};
 use hoare_law::monitor::Monitor;
 use std::process::Abort;
 use std::sync::Wait;
@@ -34,8 +34,8 @@ struct Clockwork {
     settings: [Option<u64>; SLEEPERS],
 }
 
-impl Clockwork {
-    // Returns true if `line` may be next. A sleeper wakes at its setting. The clock advances by one, when no sleeper is
+impl Rules<Line> for Clockwork {
+    // A sleeper wakes at its setting. The clock advances by one, when no sleeper is
     // due any more.
     fn allows(&mut self, line: Line) -> bool {
         match line {
@@ -54,20 +54,6 @@ impl Clockwork {
             }
         }
     }
-}
-
-// Returns the first line that may not follow the lines before it.
-fn first_wrong(lines: &[Line]) -> Option<Line> {
-    let mut clock = Clockwork {
-        now: 0,
-        settings: [None; SLEEPERS],
-    };
-    for line in lines {
-        if !clock.allows(*line) {
-            return Some(*line);
-        }
-    }
-    None
 }
 
 // Returns how often a place slept for a tick or more, and how often the clock ticked.
@@ -156,8 +142,11 @@ pub fn sleeps_or_ticks_on<R: Wait + Abort, M: Monitor<Alarm>>(
 
 /// Fails the test unless the lines are what a clock does, all were written, and a tick woke more than one sleeper.
 pub fn is_a_clock<R: Abort>(rt: &R, log: Log<Line>) {
-    let lines = log.into_lines();
-    expect_none(rt, first_wrong(lines.as_slice()));
+    let mut clock = Clockwork {
+        now: 0,
+        settings: [None; SLEEPERS],
+    };
+    let lines = log.checked(rt, &mut clock);
     let (sleeps, ticks) = count_sleeps(lines.as_slice());
     expect_same(rt, lines.len().saturating_sub(ticks), 2000);
     assert!(rt; ticks < sleeps);

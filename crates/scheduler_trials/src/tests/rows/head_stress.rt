@@ -2,9 +2,9 @@
 //! down is checked against what a sweep is.
 ghost use Rattle.std.specs.Prelude.{◌≡◌};
 
-use crate::tests::compared::{expect_none, expect_same};
+use crate::tests::compared::expect_same;
 use crate::tests::rows::drive::{Trip, goes, hands_on};
-use crate::tests::rows::shared_log::{Log, await_others};
+use crate::tests::rows::shared_log::{Log, Rules, await_others};
 use hoare_law::monitor::Monitor;
 use std::process::Abort;
 use std::sync::Wait;
@@ -105,8 +105,9 @@ impl Elevator {
         self.at = dest;
         wish.dest == dest && is_next && self.holder.replace(place).is_none()
     }
+}
 
-    // Returns true if `line` may be next, and records it.
+impl Rules<Line> for Elevator {
     fn allows(&mut self, line: Line) -> bool {
         match line {
             Line::Asks { place, dest } => {
@@ -123,23 +124,6 @@ impl Elevator {
             }
         }
     }
-}
-
-// Returns the first line that may not follow the lines before it.
-fn first_wrong(lines: &[Line]) -> Option<Line> {
-    let mut disk = Elevator {
-        at: 0,
-        goes_up: true,
-        holder: None,
-        wishes: [None; PLACES],
-        next: None,
-    };
-    for line in lines {
-        if !disk.allows(*line) {
-            return Some(*line);
-        }
-    }
-    None
 }
 
 /// Requests a random cylinder in each round, and releases the drive when all others wait or have finished.
@@ -172,7 +156,13 @@ pub fn travels<R: Wait + Abort, M: Monitor<Head<Trip>>>(
 
 /// Fails the test unless the lines are what a sweep is, and all were written.
 pub fn is_a_sweep<R: Abort>(rt: &R, log: Log<Line>) {
-    let lines = log.into_lines();
-    expect_none(rt, first_wrong(lines.as_slice()));
+    let mut disk = Elevator {
+        at: 0,
+        goes_up: true,
+        holder: None,
+        wishes: [None; PLACES],
+        next: None,
+    };
+    let lines = log.checked(rt, &mut disk);
     expect_same(rt, lines.len(), 3000);
 }

@@ -2,9 +2,9 @@
 //! pool is.
 ghost use Rattle.std.specs.Prelude.{◌≡◌};
 
-use crate::tests::compared::{expect_none, expect_same};
+use crate::tests::compared::expect_same;
 use crate::tests::rows::alarm_and_pool::pool::{gives, takes};
-use crate::tests::rows::shared_log::{Log, await_others, linger};
+use crate::tests::rows::shared_log::{Log, Rules, await_others, linger};
 use hoare_law::monitor::Monitor;
 use std::process::Abort;
 use std::rt::Clock;
@@ -29,28 +29,22 @@ pub enum Line {
     Gives { stream: u32, buffer: u32 },
 }
 
-// Returns true if `line` may be next, if these are the holders of the buffers: a buffer has one holder, which gives it
-// back.
-fn allows(holders: &mut [Option<u32>; BUFFERS as usize], line: Line) -> bool {
-    match line {
-        Line::Has { stream, buffer } => {
-            buffer < BUFFERS && holders[buffer as usize].replace(stream).is_none()
-        }
-        Line::Gives { stream, buffer } => {
-            buffer < BUFFERS && holders[buffer as usize].take() == Some(stream)
-        }
-    }
-}
+// The holders of the buffers.
+#[derive(Drop)]
+struct Holders([Option<u32>; BUFFERS as usize]);
 
-// Returns the first line that may not follow the lines before it.
-fn first_wrong(lines: &[Line]) -> Option<Line> {
-    let mut holders = [None; BUFFERS as usize];
-    for line in lines {
-        if !allows(&mut holders, *line) {
-            return Some(*line);
+impl Rules<Line> for Holders {
+    // A buffer has one holder, which gives it back.
+    fn allows(&mut self, line: Line) -> bool {
+        match line {
+            Line::Has { stream, buffer } => {
+                buffer < BUFFERS && self.0[buffer as usize].replace(stream).is_none()
+            }
+            Line::Gives { stream, buffer } => {
+                buffer < BUFFERS && self.0[buffer as usize].take() == Some(stream)
+            }
         }
     }
-    None
 }
 
 // Takes a buffer, and writes that down. Returns its number.
@@ -152,7 +146,7 @@ pub fn uses_or_takes_all<R: Wait + Abort + Clock, M: Monitor<Pool>>(
 
 /// Fails the test unless the lines are what a pool does, and all were written.
 pub fn is_a_pool<R: Abort>(rt: &R, log: Log<Line>) {
-    let lines = log.into_lines();
-    expect_none(rt, first_wrong(lines.as_slice()));
+    let mut holders = Holders([None; BUFFERS as usize]);
+    let lines = log.checked(rt, &mut holders);
     expect_same(rt, lines.len(), 3200);
 }

@@ -2,9 +2,8 @@
 //! and writers may do.
 ghost use Rattle.std.specs.Prelude.{◌≡◌, ◌<◌};
 
-use crate::tests::compared::expect_none;
 use crate::tests::rows::reading::{Shared, ends_read, ends_write, waiting};
-use crate::tests::rows::shared_log::{Log, linger};
+use crate::tests::rows::shared_log::{Log, Rules, linger};
 use hoare_law::monitor::Monitor;
 use std::process::Abort;
 use std::rt::Clock;
@@ -98,8 +97,9 @@ impl Room {
             self.met_writers = self.met_writers.saturating_add(1);
         }
     }
+}
 
-    // Returns true if `line` may be next, and records it.
+impl Rules<Line> for Room {
     fn allows(&mut self, line: Line) -> bool {
         match line {
             Line::Sees { place } => {
@@ -129,25 +129,6 @@ impl Room {
             }
         }
     }
-}
-
-// Returns the first line that may not follow the lines before it, and how often a reader met a waiting writer.
-fn first_wrong(lines: &[Line]) -> (Option<Line>, usize) {
-    let mut room = Room {
-        reading: [false; PLACES],
-        writer: None,
-        leaving: 0,
-        value: 0,
-        must_wait: [false; PLACES],
-        met_writers: 0,
-        read_first: 0,
-    };
-    for line in lines {
-        if !room.allows(*line) {
-            return (Some(*line), room.met_writers);
-        }
-    }
-    (None, room.met_writers)
 }
 
 // Asks to read. Writes down, before that, whether a process waits to write, and then the value that the place found.
@@ -260,10 +241,17 @@ fn count_first(lines: &[Line]) -> usize {
 
 /// Fails the test unless the lines are what readers and writers do, and they had to wait for each other.
 pub fn is_read_and_written<R: Abort>(rt: &R, log: Log<Line>) {
-    let lines = log.into_lines();
-    let (wrong, met_writers) = first_wrong(lines.as_slice());
-    expect_none(rt, wrong);
-    let read_first = count_first(lines.as_slice());
+    let mut room = Room {
+        reading: [false; PLACES],
+        writer: None,
+        leaving: 0,
+        value: 0,
+        must_wait: [false; PLACES],
+        met_writers: 0,
+        read_first: 0,
+    };
+    let lines = log.checked(rt, &mut room);
+    let (met_writers, read_first) = (room.met_writers, count_first(lines.as_slice()));
     assert!(rt;
         met_writers >= 10 && read_first >= 10,
         "{met_writers} and {read_first}"

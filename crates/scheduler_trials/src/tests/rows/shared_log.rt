@@ -4,6 +4,7 @@ ghost use Rattle.std.specs.Prelude.{◌≡◌};
 use hoare_law::data::MonitorData;
 use hoare_law::monitor::Monitor;
 use std::alloc::Global;
+use std::fmt::Debug;
 use std::process::Abort;
 use std::rt::Clock;
 use std::sync::atomic::{AtomicUsize, Ordering};
@@ -12,6 +13,12 @@ use std::thread;
 use std::time::Duration;
 use test_support::limit::VISITS;
 use test_support::running::count_waiting;
+
+/// The rules of what is tested, as it should be after the lines that were recorded.
+pub trait Rules<L> {
+    /// Returns true if `line` may be next, and records it.
+    fn allows(&mut self, line: L) -> bool;
+}
 
 /// Lines in the order in which they were written, and how many processes have finished.
 #[derive(Drop)]
@@ -32,12 +39,6 @@ impl<L> Log<L> {
         }
     }
 
-    /// Returns the lines, the oldest first.
-    pub fn into_lines(self) -> Vec<L> {
-        let Log { lines, finished: _ } = self;
-        lines.into_inner()
-    }
-
     /// Notes that a process writes no more.
     pub fn finish(&self) {
         self.finished.fetch_add(1, Ordering::SeqCst);
@@ -49,10 +50,20 @@ impl<L> Log<L> {
     }
 }
 
-impl<L: Copy> Log<L> {
+impl<L: Copy + Debug> Log<L> {
     /// Writes a line. Fails the test if there is no room.
     pub fn write<R: Wait + Abort>(&self, rt: &R, line: L) {
         self.lines.lock(rt).push(line).expect(rt, "memory");
+    }
+
+    /// Returns the lines, the oldest first. Fails the test at the first line that may not follow the lines before it.
+    pub fn checked<R: Abort, K: Rules<L>>(self, rt: &R, rules: &mut K) -> Vec<L> {
+        let Log { lines, finished: _ } = self;
+        let lines = lines.into_inner();
+        for line in lines.as_slice() {
+            assert!(rt; rules.allows(*line), "{line:?} is wrong");
+        }
+        lines
     }
 }
 

@@ -1,6 +1,6 @@
 //! What all tests compare: values, and how they read.
 
-use any_door::DoorKind;
+use crate::tests::row::DoorType;
 use std::alloc::Global;
 use std::fmt::{Debug, Display};
 use std::process::Abort;
@@ -19,12 +19,12 @@ pub fn reads_as<T: Display, R: Abort>(rt: &R, alloc: Global, value: &T, wanted: 
     expect_same(rt, shown.as_str(), wanted);
 }
 
-/// Fails the test if the places of a row on a door of this kind returned something else than `wanted`.
-pub fn answered<R: Abort>(rt: &R, kind: DoorKind, answers: &[u64], wanted: &[u64]) {
-    expect_same(rt, (kind, answers), (kind, wanted));
+/// Fails the test if the places of a row on a door of this type returned something else than `wanted`.
+pub fn answered<R: Abort>(rt: &R, door: DoorType, answers: &[u64], wanted: &[u64]) {
+    expect_same(rt, (door, answers), (door, wanted));
 }
 
-/// Fails the test if not all places of a row on a door of this kind returned.
-pub fn all_answered<R: Abort>(rt: &R, kind: DoorKind, answers: &[u64], places: usize) {
-    expect_same(rt, (kind, answers.len()), (kind, places));
+/// Fails the test if not all places of a row on a door of this type returned.
+pub fn all_answered<R: Abort>(rt: &R, door: DoorType, answers: &[u64], places: usize) {
+    expect_same(rt, (door, answers.len()), (door, places));
 }

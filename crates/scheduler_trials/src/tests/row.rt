@@ -1,5 +1,5 @@
-//! A row of tests on a door, of either kind or by its own type: the door is made, each place acts by its number, and
-//! the door is closed.
+//! A row of tests on a door of either kind, as an `AnyDoor` or by its own type: the door is made, each place acts by its
+//! number, and the door is closed.
 ghost use Rattle.std.specs.Prelude.{◌≡◌, vec_len, All};
 ghost use Rattle.hoare_law.specs.Priorities.{nobody};
 ghost use Rattle.any_door.specs.Doors.{id_of};
@@ -21,6 +21,25 @@ use ticket_door::door::TicketDoor;
 
 /// The first ticket of a ticket door that is made by its own type: the third ticket after it is 0.
 const FIRST_TICKET: u64 = u64::MAX - 2;
+
+/// The type of the door on which a row runs.
+#[derive(Clone, Copy, Debug, PartialEq)]
+pub enum DoorType {
+    /// An `AnyDoor` of this kind.
+    Any(DoorKind),
+    /// A `Door` or a `TicketDoor`, by this kind.
+    Own(DoorKind),
+}
+
+impl DoorType {
+    /// Each kind of door by each type.
+    pub const ALL: [DoorType; 4] = [
+        DoorType::Any(DoorKind::Baton),
+        DoorType::Any(DoorKind::Ticket),
+        DoorType::Own(DoorKind::Baton),
+        DoorType::Own(DoorKind::Ticket),
+    ];
+}
 
 /// Creates a door of this kind with the data `state`. Returns it with its `count` places, in order. Fails the test if
 /// the door is refused.
@@ -112,45 +131,34 @@ macro_rules! run_on {
     }};
 }
 
-/// Runs the row on an `AnyDoor` of this kind, made with the data `state` and `count` places. Returns the data that were
-/// left, and what the places returned.
+/// Runs the row on a door of this type, made with the data `state` and `count` places. Returns the data that were left,
+/// and what the places returned.
 pub fn run<D: MonitorData + Send + Drop, P: Row<D>, R: Threads + Wait + Abort + Clock + Sync>(
     rt: &R,
     alloc: Global,
-    kind: DoorKind,
+    door_type: DoorType,
     state: D,
     count: usize,
     row: &P,
 ) -> (D, Vec<u64>)
     requires { D.rest state nobody }
 {
-    run_on!(
-        rt,
-        alloc,
-        door(rt, alloc, kind, state, count),
-        on_any_door,
-        row
-    )
-}
-
-/// Runs the row on a `Door` or a `TicketDoor`, by this kind, made with the data `state` and `count` places. Returns the
-/// data that were left, and what the places returned.
-pub fn run_by_type<
-    D: MonitorData + Send + Drop,
-    P: Row<D>,
-    R: Threads + Wait + Abort + Clock + Sync,
->(rt: &R, alloc: Global, kind: DoorKind, state: D, count: usize, row: &P) -> (D, Vec<u64>)
-    requires { D.rest state nobody }
-{
-    match kind {
-        DoorKind::Baton => run_on!(
+    match door_type {
+        DoorType::Any(kind) => run_on!(
+            rt,
+            alloc,
+            door(rt, alloc, kind, state, count),
+            on_any_door,
+            row
+        ),
+        DoorType::Own(DoorKind::Baton) => run_on!(
             rt,
             alloc,
             baton(rt, alloc, state, count),
             on_baton_door,
             row
         ),
-        DoorKind::Ticket => run_on!(
+        DoorType::Own(DoorKind::Ticket) => run_on!(
             rt,
             alloc,
             ticket(rt, alloc, state, count),

@@ -4,13 +4,12 @@ ghost use Rattle.hoare_law.specs.Priorities.{nobody};
 ghost use Rattle.sweep_schedulers.specs.Heads.{HeadRests};
 
 use crate::tests::compared::{all_answered, expect_same};
-use crate::tests::row::{Row, run, run_by_type};
+use crate::tests::row::{DoorType, Row, run};
 use crate::tests::rows::drive::{Trip, goes, hands_on};
 use crate::tests::rows::head_stay::{ASKING, asks_or_counts};
 use crate::tests::rows::head_stress::{CYLMAX, Line, PLACES, is_a_sweep, travels};
 use crate::tests::rows::shared_log::Log;
 use crate::tests::rows::turns::{Turns, line_up};
-use any_door::DoorKind;
 use baton_door::place::DoorOut;
 use hoare_law::monitor::Monitor;
 use std::alloc::Global;
@@ -213,7 +212,7 @@ fn setting(row: HeadRow<'_>) -> (u16, usize) {
 #[test]
 fn a_disk_head_on_each_door(host: HostRuntime) {
     let (rt, alloc) = (&host, host.alloc());
-    for kind in DoorKind::BOTH {
+    for door in DoorType::ALL {
         let turns = Turns::new();
         let log = Log::new(rt, alloc, 10_000);
         for row in [
@@ -224,22 +223,9 @@ fn a_disk_head_on_each_door(host: HostRuntime) {
         ] {
             let (cylmax, places) = setting(row);
             let head = disk(alloc, cylmax);
-            let (_, answers) = run(rt, alloc, kind, head, places, &row);
-            all_answered(rt, kind, answers.as_slice(), places);
+            let (_, answers) = run(rt, alloc, door, head, places, &row);
+            all_answered(rt, door, answers.as_slice(), places);
         }
         is_a_sweep(rt, log);
-    }
-}
-
-#[test]
-fn a_disk_head_by_each_doors_type(host: HostRuntime) {
-    let (rt, alloc) = (&host, host.alloc());
-    for kind in DoorKind::BOTH {
-        let turns = Turns::new();
-        let row = HeadRow::ByPlan(alloc, &turns, &SWEEP_ORDER);
-        let (cylmax, places) = setting(row);
-        let head = disk(alloc, cylmax);
-        let (_, answers) = run_by_type(rt, alloc, kind, head, places, &row);
-        all_answered(rt, kind, answers.as_slice(), places);
     }
 }

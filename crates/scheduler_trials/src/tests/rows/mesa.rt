@@ -3,9 +3,8 @@ ghost use Rattle.std.specs.Prelude.{◌≡◌};
 ghost use Rattle.plain_schedulers.specs.Buffers.{BufferHolds};
 
 use crate::tests::compared::expect_same;
-use crate::tests::row::{Row, run, run_by_type};
+use crate::tests::row::{DoorType, Row, run};
 use crate::tests::rows::turns::{Turns, line_up};
-use any_door::DoorKind;
 use baton_door::place::DoorOut;
 use hoare_law::monitor::Monitor;
 use plain_schedulers::buffer::mesa::MesaBuffer;
@@ -156,15 +155,15 @@ fn agrees(row: MesaRow<'_>, answers: &[u64]) -> bool {
 }
 
 // Fails the test if the places returned something else.
-fn holds<R: Abort>(rt: &R, kind: DoorKind, row: MesaRow<'_>, answers: &[u64]) {
-    let wanted = (kind, answers, true);
-    expect_same(rt, (kind, answers, agrees(row, answers)), wanted);
+fn holds<R: Abort>(rt: &R, door: DoorType, row: MesaRow<'_>, answers: &[u64]) {
+    let wanted = (door, answers, true);
+    expect_same(rt, (door, answers, agrees(row, answers)), wanted);
 }
 
 #[test]
 fn who_is_called_tests_again_on_each_door(host: HostRuntime) {
     let (rt, alloc) = (&host, host.alloc());
-    for kind in DoorKind::BOTH {
+    for door in DoorType::ALL {
         let turns = Turns::new();
         for row in [
             MesaRow::WhoIsCalledTestsAgain(&turns),
@@ -172,22 +171,9 @@ fn who_is_called_tests_again_on_each_door(host: HostRuntime) {
         ] {
             let (cells, places) = setting(row);
             let buffer = with_cells(rt, alloc, cells);
-            let (_, answers) = run(rt, alloc, kind, buffer, places, &row);
-            holds(rt, kind, row, answers.as_slice());
+            let (_, answers) = run(rt, alloc, door, buffer, places, &row);
+            holds(rt, door, row, answers.as_slice());
         }
-    }
-}
-
-#[test]
-fn who_is_called_tests_again_by_each_doors_type(host: HostRuntime) {
-    let (rt, alloc) = (&host, host.alloc());
-    for kind in DoorKind::BOTH {
-        let turns = Turns::new();
-        let row = MesaRow::WhoIsCalledTestsAgain(&turns);
-        let (cells, places) = setting(row);
-        let buffer = with_cells(rt, alloc, cells);
-        let (_, answers) = run_by_type(rt, alloc, kind, buffer, places, &row);
-        holds(rt, kind, row, answers.as_slice());
     }
 }
 

@@ -3,7 +3,7 @@ ghost use Rattle.std.specs.Prelude.{◌≡◌};
 
 use crate::tests::compared::{all_answered, expect_same, reads_as};
 use crate::tests::fake::with_answers;
-use crate::tests::row::{Row, run, run_by_type};
+use crate::tests::row::{DoorType, Row, run};
 use crate::tests::rows::late_reader::reads_or_writes_late;
 use crate::tests::rows::readers_stress::{Line, PLACES, is_read_and_written, reads_or_writes_on};
 use crate::tests::rows::reading::{
@@ -12,7 +12,6 @@ use crate::tests::rows::reading::{
 };
 use crate::tests::rows::shared_log::Log;
 use crate::tests::rows::turns::{Turns, line_up};
-use any_door::DoorKind;
 use baton_door::place::DoorOut;
 use hoare_law::monitor::Monitor;
 use std::alloc::Global;
@@ -242,15 +241,15 @@ fn agrees(row: ReadersRow<'_>, value: u64) -> bool {
 }
 
 // Fails the test if the row left another value.
-fn holds<R: Abort>(rt: &R, kind: DoorKind, row: ReadersRow<'_>, value: u64) {
-    let wanted = (kind, value, true);
-    expect_same(rt, (kind, value, agrees(row, value)), wanted);
+fn holds<R: Abort>(rt: &R, door: DoorType, row: ReadersRow<'_>, value: u64) {
+    let wanted = (door, value, true);
+    expect_same(rt, (door, value, agrees(row, value)), wanted);
 }
 
 #[test]
 fn readers_and_writers_on_each_door(host: HostRuntime) {
     let (rt, alloc) = (&host, host.alloc());
-    for kind in DoorKind::BOTH {
+    for door in DoorType::ALL {
         let turns = Turns::new();
         let ended = AtomicU32::new(0);
         let log = Log::new(rt, alloc, 10_000);
@@ -261,24 +260,10 @@ fn readers_and_writers_on_each_door(host: HostRuntime) {
         ] {
             let (value, places) = setting(row);
             let data = ReadersWriters::with(value);
-            let (shared, answers) = run(rt, alloc, kind, data, places, &row);
-            all_answered(rt, kind, answers.as_slice(), places);
-            holds(rt, kind, row, shared.into_value());
+            let (shared, answers) = run(rt, alloc, door, data, places, &row);
+            all_answered(rt, door, answers.as_slice(), places);
+            holds(rt, door, row, shared.into_value());
         }
         is_read_and_written(rt, log);
-    }
-}
-
-#[test]
-fn readers_and_writers_by_each_doors_type(host: HostRuntime) {
-    let (rt, alloc) = (&host, host.alloc());
-    for kind in DoorKind::BOTH {
-        let turns = Turns::new();
-        let row = ReadersRow::ReadersAndWriters(alloc, &turns);
-        let (value, places) = setting(row);
-        let data = ReadersWriters::with(value);
-        let (shared, answers) = run_by_type(rt, alloc, kind, data, places, &row);
-        all_answered(rt, kind, answers.as_slice(), places);
-        holds(rt, kind, row, shared.into_value());
     }
 }

@@ -4,10 +4,9 @@ ghost use Rattle.std.specs.Prelude.{◌≡◌};
 ghost use Rattle.hoare_law.specs.Priorities.{nobody};
 
 use crate::tests::compared::expect_same;
-use crate::tests::row::{Row, run};
+use crate::tests::row::{DoorType, Row, run};
 use crate::tests::rows::shared_log::linger;
 use crate::tests::rows::turns::{Turns, watch};
-use any_door::DoorKind;
 use baton_door::place::DoorOut;
 use cookbook::barrier::{Arrival, Barrier};
 use cookbook::drain::Drain;
@@ -276,11 +275,11 @@ impl Row<WorkQueue> for Shared {
     }
 }
 
-// Runs the row of a recipe on a door of this kind. Returns the answers.
+// Runs the row of a recipe on a door of this type. Returns the answers.
 fn answers<D: MonitorData + Send + Drop, R: Threads + Wait + Abort + Clock + Sync>(
     rt: &R,
     alloc: Global,
-    kind: DoorKind,
+    door: DoorType,
     state: D,
     places: usize,
 ) -> Vec<u64>
@@ -292,17 +291,17 @@ where
         turns: Turns::new(),
         done: AtomicU64::new(0),
     };
-    let (_, answers) = run(rt, alloc, kind, state, places, &shared);
+    let (_, answers) = run(rt, alloc, door, state, places, &shared);
     answers
 }
 
 // Fails the test unless the sum of the answers is `wanted`.
-fn sum_is<R: Abort>(rt: &R, kind: DoorKind, answers: Vec<u64>, wanted: u64) {
+fn sum_is<R: Abort>(rt: &R, door: DoorType, answers: Vec<u64>, wanted: u64) {
     let mut sum = 0u64;
     for answer in answers.as_slice() {
         sum = sum.wrapping_add(*answer);
     }
-    expect_same(rt, (kind, sum), (kind, wanted));
+    expect_same(rt, (door, sum), (door, wanted));
 }
 
 // Returns true if each place got the number of a place that got its own.
@@ -320,20 +319,20 @@ fn are_paired(answers: &[u64]) -> bool {
 #[test]
 fn recipes_keep_their_promises_on_each_door(host: HostRuntime) {
     let (rt, alloc) = (&host, host.alloc());
-    for kind in DoorKind::BOTH {
-        sum_is(rt, kind, answers(rt, alloc, kind, Barrier::new(4), 4), 98);
-        sum_is(rt, kind, answers(rt, alloc, kind, Latch::new(3), 6), 9);
-        sum_is(rt, kind, answers(rt, alloc, kind, Drain::new(), 6), 9);
-        sum_is(rt, kind, answers(rt, alloc, kind, Mailbox::new(), 2), 16);
-        sum_is(rt, kind, answers(rt, alloc, kind, Table::new(), 10), 10);
-        let jobs = answers(rt, alloc, kind, WorkQueue::new(4), 5);
-        sum_is(rt, kind, jobs, 0x2222_2222);
-        let met = answers(rt, alloc, kind, Rendezvous::<u64>::new(), 8);
+    for door in DoorType::ALL {
+        sum_is(rt, door, answers(rt, alloc, door, Barrier::new(4), 4), 98);
+        sum_is(rt, door, answers(rt, alloc, door, Latch::new(3), 6), 9);
+        sum_is(rt, door, answers(rt, alloc, door, Drain::new(), 6), 9);
+        sum_is(rt, door, answers(rt, alloc, door, Mailbox::new(), 2), 16);
+        sum_is(rt, door, answers(rt, alloc, door, Table::new(), 10), 10);
+        let jobs = answers(rt, alloc, door, WorkQueue::new(4), 5);
+        sum_is(rt, door, jobs, 0x2222_2222);
+        let met = answers(rt, alloc, door, Rendezvous::<u64>::new(), 8);
         let paired = are_paired(met.as_slice());
         expect_same(
             rt,
-            (kind, met.as_slice(), paired),
-            (kind, met.as_slice(), true),
+            (door, met.as_slice(), paired),
+            (door, met.as_slice(), true),
         );
     }
 }

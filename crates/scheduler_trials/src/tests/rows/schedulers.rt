@@ -4,8 +4,7 @@ ghost use Rattle.std.specs.Prelude.{◌≡◌};
 use crate::tests::awaited::{await_sign, watch};
 use crate::tests::compared::{answered, expect_same};
 use crate::tests::fake::with_cells;
-use crate::tests::row::{Row, run, run_by_type};
-use any_door::DoorKind;
+use crate::tests::row::{DoorType, Row, run};
 use baton_door::place::DoorOut;
 use hoare_law::monitor::Monitor;
 use plain_schedulers::buffer::{Buffer, BufferRefused};
@@ -133,45 +132,23 @@ impl Row<Buffer<u64>> for Filling {
 #[test]
 fn an_item_is_lent_on_each_door(host: HostRuntime) {
     let (rt, alloc) = (&host, host.alloc());
-    for kind in DoorKind::BOTH {
+    for door in DoorType::ALL {
         let sign = AtomicBool::new(false);
         let single = Single::with(7u64);
-        let (_, answers) = run(rt, alloc, kind, single, 2, &Lending(&sign));
-        answered(rt, kind, answers.as_slice(), &[7, 7]);
+        let (_, answers) = run(rt, alloc, door, single, 2, &Lending(&sign));
+        answered(rt, door, answers.as_slice(), &[7, 7]);
     }
 }
 
 #[test]
 fn items_come_out_in_order_on_each_door(host: HostRuntime) {
     let (rt, alloc) = (&host, host.alloc());
-    for kind in DoorKind::BOTH {
+    for door in DoorType::ALL {
         for (cells, items) in [(1, 4), (4096, 5000)] {
             let buffer = with_cells(rt, alloc, cells);
-            let (_, answers) = run(rt, alloc, kind, buffer, 2, &Filling(items));
-            answered(rt, kind, answers.as_slice(), &[0, items]);
+            let (_, answers) = run(rt, alloc, door, buffer, 2, &Filling(items));
+            answered(rt, door, answers.as_slice(), &[0, items]);
         }
-    }
-}
-
-#[test]
-fn an_item_is_lent_by_each_doors_type(host: HostRuntime) {
-    let (rt, alloc) = (&host, host.alloc());
-    for kind in DoorKind::BOTH {
-        let sign = AtomicBool::new(false);
-        let single = Single::with(7u64);
-        let (_, answers) = run_by_type(rt, alloc, kind, single, 2, &Lending(&sign));
-        answered(rt, kind, answers.as_slice(), &[7, 7]);
-    }
-}
-
-#[test]
-fn items_come_out_in_order_by_each_doors_type(host: HostRuntime) {
-    let (rt, alloc) = (&host, host.alloc());
-    let items = 4;
-    for kind in DoorKind::BOTH {
-        let buffer = with_cells(rt, alloc, 1);
-        let (_, answers) = run_by_type(rt, alloc, kind, buffer, 2, &Filling(items));
-        answered(rt, kind, answers.as_slice(), &[0, items]);
     }
 }
 

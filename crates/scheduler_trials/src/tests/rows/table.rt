@@ -3,9 +3,8 @@
 ghost use Rattle.std.specs.Prelude.{◌≡◌, ◌<◌};
 
 use crate::tests::compared::{answered, expect_same};
-use crate::tests::row::{Row, run};
+use crate::tests::row::{DoorType, Row, run};
 use crate::tests::rows::turns::{Turns, line_up};
-use any_door::DoorKind;
 use baton_door::place::DoorOut;
 use cookbook::table::Table;
 use hoare_law::monitor::Monitor;
@@ -69,9 +68,9 @@ impl Row<Table> for Dinner<'_> {
 #[test]
 fn who_has_the_first_seat_goes_on_first(host: HostRuntime) {
     let (rt, alloc) = (&host, host.alloc());
-    for kind in DoorKind::BOTH {
+    for door in DoorType::ALL {
         let turns = Turns::new();
-        let (_, answers) = run(rt, alloc, kind, Table::new(), 3, &Dinner(&turns));
-        answered(rt, kind, answers.as_slice(), &[2, 0, 1]);
+        let (_, answers) = run(rt, alloc, door, Table::new(), 3, &Dinner(&turns));
+        answered(rt, door, answers.as_slice(), &[2, 0, 1]);
     }
 }

@@ -2,11 +2,10 @@
 ghost use Rattle.std.specs.Prelude.{◌≡◌};
 
 use crate::tests::compared::{answered, expect_same};
-use crate::tests::row::{Row, run, run_by_type};
+use crate::tests::row::{DoorType, Row, run};
 use crate::tests::rows::alarm_stress::{Line, SLEEPERS, is_a_clock, sleeps_or_ticks_on};
 use crate::tests::rows::shared_log::Log;
 use crate::tests::rows::turns::watch;
-use any_door::DoorKind;
 use baton_door::place::DoorOut;
 use hoare_law::monitor::Monitor;
 use std::process::Abort;
@@ -152,7 +151,7 @@ fn wanted(row: AlarmRow<'_>) -> &'static [u64] {
 #[test]
 fn an_alarm_clock_on_each_door(host: HostRuntime) {
     let (rt, alloc) = (&host, host.alloc());
-    for kind in DoorKind::BOTH {
+    for door in DoorType::ALL {
         let log = Log::new(rt, alloc, 10_000);
         for row in [
             AlarmRow::SleepersWakeAtTheirSettings,
@@ -160,20 +159,9 @@ fn an_alarm_clock_on_each_door(host: HostRuntime) {
             AlarmRow::AllThatAreDueWakeAtTheirTime(&log),
         ] {
             let (time, places) = setting(row);
-            let (_, answers) = run(rt, alloc, kind, Alarm::at(time), places, &row);
-            answered(rt, kind, answers.as_slice(), wanted(row));
+            let (_, answers) = run(rt, alloc, door, Alarm::at(time), places, &row);
+            answered(rt, door, answers.as_slice(), wanted(row));
         }
         is_a_clock(rt, log);
-    }
-}
-
-#[test]
-fn an_alarm_clock_by_each_doors_type(host: HostRuntime) {
-    let (rt, alloc) = (&host, host.alloc());
-    let row = AlarmRow::SleepersWakeAtTheirSettings;
-    let (time, places) = setting(row);
-    for kind in DoorKind::BOTH {
-        let (_, answers) = run_by_type(rt, alloc, kind, Alarm::at(time), places, &row);
-        answered(rt, kind, answers.as_slice(), wanted(row));
     }
 }

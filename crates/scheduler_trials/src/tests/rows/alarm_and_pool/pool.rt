@@ -4,11 +4,10 @@ ghost use Rattle.hoare_law.specs.Priorities.{nobody};
 ghost use Rattle.timed_schedulers.specs.Pools.{PoolRests};
 
 use crate::tests::compared::{answered, expect_same};
-use crate::tests::row::{Row, run, run_by_type};
+use crate::tests::row::{DoorType, Row, run};
 use crate::tests::rows::pool_stress::{BUFFERS, Line, STREAMS, is_a_pool, uses_or_takes_all};
 use crate::tests::rows::shared_log::Log;
 use crate::tests::rows::turns::{Turns, line_up};
-use any_door::DoorKind;
 use baton_door::place::DoorOut;
 use hoare_law::monitor::Monitor;
 use std::alloc::Global;
@@ -205,7 +204,7 @@ fn wanted(row: PoolRow<'_>) -> &'static [u64] {
 #[test]
 fn a_pool_on_each_door(host: HostRuntime) {
     let (rt, alloc) = (&host, host.alloc());
-    for kind in DoorKind::BOTH {
+    for door in DoorType::ALL {
         let turns = Turns::new();
         let log = Log::new(rt, alloc, 10_000);
         for row in [
@@ -214,23 +213,10 @@ fn a_pool_on_each_door(host: HostRuntime) {
         ] {
             let (buffers, streams, places) = setting(row);
             let pool = with_buffers(rt, alloc, buffers, streams);
-            let (_, answers) = run(rt, alloc, kind, pool, places, &row);
-            answered(rt, kind, answers.as_slice(), wanted(row));
+            let (_, answers) = run(rt, alloc, door, pool, places, &row);
+            answered(rt, door, answers.as_slice(), wanted(row));
         }
         is_a_pool(rt, log);
-    }
-}
-
-#[test]
-fn a_pool_by_each_doors_type(host: HostRuntime) {
-    let (rt, alloc) = (&host, host.alloc());
-    for kind in DoorKind::BOTH {
-        let turns = Turns::new();
-        let row = PoolRow::WhoHoldsTheFewestBuffersGoesOnFirst(&turns);
-        let (buffers, streams, places) = setting(row);
-        let pool = with_buffers(rt, alloc, buffers, streams);
-        let (_, answers) = run_by_type(rt, alloc, kind, pool, places, &row);
-        answered(rt, kind, answers.as_slice(), wanted(row));
     }
 }
 

@@ -3,7 +3,8 @@
 ghost use Rattle.std.specs.Prelude.{◌≡◌};
 
 use crate::tests::compared::expect_same;
-use crate::tests::rows::shared_log::{Log, Rules, await_others};
+use crate::tests::rows::shared_log::{Log, Rules};
+use crate::tests::rows::turns::await_others;
 use hoare_law::monitor::Monitor;
 use std::process::Abort;
 use std::sync::Wait;
@@ -109,7 +110,7 @@ fn ticks_on<R: Wait + Abort, M: Monitor<Alarm>>(
 {
     let mut out = out;
     for time in 1..=SLEEPERS as u64 * ROUNDS * 4 {
-        let (again, someone_waits) = await_others(rt, m, out, log, SLEEPERS);
+        let (again, someone_waits) = await_others(rt, m, out, &log.finished, SLEEPERS);
         if !someone_waits {
             return again;
         }

@@ -4,7 +4,8 @@ ghost use Rattle.std.specs.Prelude.{◌≡◌};
 
 use crate::tests::compared::expect_same;
 use crate::tests::rows::drive::{Trip, goes, hands_on};
-use crate::tests::rows::shared_log::{Log, Rules, await_others};
+use crate::tests::rows::shared_log::{Log, Rules};
+use crate::tests::rows::turns::await_others;
 use hoare_law::monitor::Monitor;
 use std::process::Abort;
 use std::sync::Wait;
@@ -146,7 +147,7 @@ pub fn travels<R: Wait + Abort, M: Monitor<Head<Trip>>>(
         log.write(rt, Line::Asks { place, dest });
         let (again, drive) = goes(rt, m, out, dest);
         log.write(rt, Line::Gets { place, dest });
-        let (again, _someone_waits) = await_others(rt, m, again, log, PLACES - 1);
+        let (again, _someone_waits) = await_others(rt, m, again, &log.finished, PLACES - 1);
         log.write(rt, Line::Gives { place });
         out = hands_on(rt, m, again, drive);
     }

@@ -4,7 +4,8 @@ ghost use Rattle.std.specs.Prelude.{◌≡◌};
 
 use crate::tests::compared::expect_same;
 use crate::tests::rows::alarm_and_pool::pool::{gives, takes};
-use crate::tests::rows::shared_log::{Log, Rules, await_others, linger};
+use crate::tests::rows::shared_log::{Log, Rules, linger};
+use crate::tests::rows::turns::await_others;
 use hoare_law::monitor::Monitor;
 use std::process::Abort;
 use std::rt::Clock;
@@ -116,7 +117,7 @@ fn takes_all<R: Wait + Abort, M: Monitor<Pool>>(
     ensures of { M.is_of m.now result }
     ensures place { M.place result ≡ M.place out }
 {
-    let (out, _someone_waits) = await_others(rt, m, out, log, STREAMS as usize);
+    let (out, _someone_waits) = await_others(rt, m, out, &log.finished, STREAMS as usize);
     let mut out = out;
     for expected in 0..BUFFERS {
         let (again, buffer) = takes(rt, m, out, 0);

@@ -11,7 +11,6 @@ use std::sync::atomic::{AtomicUsize, Ordering};
 use std::sync::{Mutex, Wait};
 use std::thread;
 use std::time::Duration;
-use test_support::limit::VISITS;
 use test_support::running::count_waiting;
 
 /// The rules of what is tested, as it should be after the lines that were recorded.
@@ -20,11 +19,12 @@ pub trait Rules<L> {
     fn allows(&mut self, line: L) -> bool;
 }
 
-/// Lines in the order in which they were written, and how many processes have finished.
+/// Lines in the order in which they were written.
 #[derive(Drop)]
 pub struct Log<L> {
     lines: Mutex<Vec<L>>,
-    finished: AtomicUsize,
+    /// Number of processes that write no more.
+    pub finished: AtomicUsize,
 }
 
 impl<L> Log<L> {
@@ -43,11 +43,6 @@ impl<L> Log<L> {
     pub fn finish(&self) {
         self.finished.fetch_add(1, Ordering::SeqCst);
     }
-
-    /// Returns how many processes write no more.
-    pub fn finished(&self) -> usize {
-        self.finished.load(Ordering::SeqCst)
-    }
 }
 
 impl<L: Copy + Debug> Log<L> {
@@ -65,33 +60,6 @@ impl<L: Copy + Debug> Log<L> {
         }
         lines
     }
-}
-
-/// Enters and leaves until all `others` wait or have finished. Returns true if any waits. Fails the test after `VISITS`
-/// visits.
-pub fn await_others<L, D: MonitorData, R: Wait + Abort, M: Monitor<D>>(
-    rt: &R,
-    m: &M,
-    out: M::Out,
-    log: &Log<L>,
-    others: usize,
-) -> (M::Out, bool)
-    requires { M.is_of m.now out }
-    ensures of { M.is_of m.now result.0 }
-    ensures place { M.place result.0 ≡ M.place out }
-{
-    let mut out = out;
-    for _ in 0..VISITS {
-        let finished = log.finished();
-        let inside = m.enter(rt, out);
-        let waiting = count_waiting(m, &inside);
-        out = m.leave(rt, inside);
-        if finished.saturating_add(waiting) == others {
-            return (out, waiting > 0);
-        }
-        thread::yield_now();
-    }
-    panic!(rt; "the others don't wait")
 }
 
 /// Enters and leaves until another process waits, at most twenty times. Sleeps 50 microseconds after each visit, which

@@ -49,6 +49,33 @@ impl Turns {
     }
 }
 
+/// Enters and leaves until all `others` wait or have `finished`. Returns true if any waits. Fails the test after
+/// `VISITS` visits.
+pub fn await_others<D: MonitorData, R: Wait + Abort, M: Monitor<D>>(
+    rt: &R,
+    m: &M,
+    out: M::Out,
+    finished: &AtomicUsize,
+    others: usize,
+) -> (M::Out, bool)
+    requires { M.is_of m.now out }
+    ensures of { M.is_of m.now result.0 }
+    ensures place { M.place result.0 ≡ M.place out }
+{
+    let mut out = out;
+    for _ in 0..VISITS {
+        let finished = finished.load(Ordering::SeqCst);
+        let inside = m.enter(rt, out);
+        let waiting = count_waiting(m, &inside);
+        out = m.leave(rt, inside);
+        if finished.saturating_add(waiting) == others {
+            return (out, waiting > 0);
+        }
+        thread::yield_now();
+    }
+    panic!(rt; "the others don't wait")
+}
+
 /// Enters and leaves until `waiting` processes wait. Fails the test after `VISITS` visits.
 pub fn watch<D: MonitorData, R: Wait + Abort, M: Monitor<D>>(
     rt: &R,
@@ -60,17 +87,7 @@ pub fn watch<D: MonitorData, R: Wait + Abort, M: Monitor<D>>(
     ensures of { M.is_of m.now result }
     ensures place { M.place result ≡ M.place out }
 {
-    let mut out = out;
-    for _ in 0..VISITS {
-        let inside = m.enter(rt, out);
-        let count = count_waiting(m, &inside);
-        out = m.leave(rt, inside);
-        if count == waiting {
-            return out;
-        }
-        thread::yield_now();
-    }
-    panic!(rt; "the others don't wait")
+    await_others(rt, m, out, &AtomicUsize::new(0), waiting).0
 }
 
 /// Gives the turns 1 to `count`, each when the processes before it wait. Returns when all of them wait.

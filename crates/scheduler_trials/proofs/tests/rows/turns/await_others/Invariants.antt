@@ -1,5 +1,5 @@
 use Rattle.std.specs.Prelude.{◌≡◌}
-use Rattle.scheduler_trials.proofs.tests.rows.shared_log.await_others.Given as goal
+use Rattle.scheduler_trials.proofs.tests.rows.turns.await_others.Given as goal
 
 -- the place stays one of the monitor's, and keeps its number
 abbrev pub invariant-loop : goal.invariant-loop

@@ -214,18 +214,17 @@ where
     Ok(())
 }
 
-// Half of the threads append to a buffer, the others remove, `turns` times each. Returns how long that took.
-fn buffered<R: Threads + Wait + Clock + Sync, M: SharedBuffer>(
+// Half of the threads append to a buffer, the others remove, `turns` times each.
+fn buffered<R: Threads + Wait + Sync, M: SharedBuffer>(
     rt: &R,
     m: &M,
     places: Vec<M::Out>,
     turns: u64,
-) -> io::Result<Duration>
+) -> io::Result<()>
 where
     M::Lists: Send,
     requires { All (M.is_of m.now) places.items }
 {
-    let start = Instant::now(rt)?;
     let roles = AtomicU64::new(0);
     thread::map_vec(
         rt,
@@ -241,7 +240,7 @@ where
             }
         },
     )?;
-    start.elapsed(rt)
+    Ok(())
 }
 
 /// What the threads of a buffer do.
@@ -261,15 +260,17 @@ pub fn work_buffer<R: Threads + Wait + Clock + Sync, M: SharedBuffer>(
     places: Vec<M::Out>,
     load: BufferLoad,
     turns: u64,
-) -> anyhow::Result<Duration>
+) -> io::Result<Duration>
 where
     M::Lists: Send,
     requires { All (M.is_of m.now) places.items }
 {
+    let start = Instant::now(rt)?;
     match load {
-        BufferLoad::Shared => Ok(buffered(rt, m, places, turns)?),
+        BufferLoad::Shared => buffered(rt, m, places, turns)?,
         BufferLoad::Alone => append_remove(rt, m, last_place(m, places)?, turns),
     }
+    start.elapsed(rt)
 }
 
 /// Threads mix all calls, `turns` times each; the last to start resumes waiters until the others are done. Returns how

@@ -1,6 +1,6 @@
-//! What one thread does with the procedures of the schedulers, over any monitor: it calls a pair of them `turns` times,
-//! and returns how long that took. A refusal ends it. Each public function returns an error if it is given no place, if
-//! the clock fails, or if a procedure other than the end of a read is refused.
+//! What one thread does with the procedures of the schedulers, over any monitor: it calls a pair of them `turns` times.
+//! A refusal ends it. Each function that returns a time returns an error if it is given no place, if the clock fails, or
+//! if a procedure other than the end of a read is refused.
 ghost use Rattle.std.specs.Prelude.{All, IfOk};
 
 use crate::opening::last_place;
@@ -38,23 +38,16 @@ pub fn acquire_release<R: Wait + Clock, M: Monitor<Single<u64>>>(
     Ok(start.elapsed(rt)?)
 }
 
-/// Appends the numbers below `turns`, and removes each again. Returns how long that took.
-pub fn append_remove<R: Wait + Clock, M: Monitor<Buffer<u64>>>(
-    rt: &R,
-    m: &M,
-    out: M::Out,
-    turns: u64,
-) -> anyhow::Result<Duration>
+/// Appends the numbers below `turns`, and removes each again.
+pub fn append_remove<R: Wait, M: Monitor<Buffer<u64>>>(rt: &R, m: &M, out: M::Out, turns: u64)
     requires { M.is_of m.now out }
 {
-    let start = Instant::now(rt)?;
     let mut out = out;
     for item in 0..turns {
         let again = Buffer::append(m, rt, out, item);
         let (again, _removed) = Buffer::remove(m, rt, again);
         out = again;
     }
-    Ok(start.elapsed(rt)?)
 }
 
 // Takes `count` buffers for stream 0, and keeps them.
@@ -146,35 +139,33 @@ fn end_read<R: Wait + Eprint + Clock, M: Monitor<ReadersWriters<u64>>>(
     }
 }
 
-// Begins and ends a read, `turns` times. Returns how long that took.
+// Begins and ends a read, `turns` times.
 fn start_end_read<R: Wait + Eprint + Clock, M: Monitor<ReadersWriters<u64>>>(
     rt: &R,
     m: &M,
     out: M::Out,
     turns: u64,
-) -> anyhow::Result<Duration>
+) -> anyhow::Result<()>
     requires { M.is_of m.now out }
 {
-    let start = Instant::now(rt)?;
     let mut out = out;
     for _ in 0..turns {
         let (again, read) = ReadersWriters::start_read(m, rt, out);
         let (pass, _value) = read?;
         out = end_read(rt, m, again, pass);
     }
-    Ok(start.elapsed(rt)?)
+    Ok(())
 }
 
-// Begins a write, and ends it with the next value, `turns` times. Returns how long that took.
-fn start_end_write<R: Wait + Clock, M: Monitor<ReadersWriters<u64>>>(
+// Begins a write, and ends it with the next value, `turns` times.
+fn start_end_write<R: Wait, M: Monitor<ReadersWriters<u64>>>(
     rt: &R,
     m: &M,
     out: M::Out,
     turns: u64,
-) -> anyhow::Result<Duration>
+) -> anyhow::Result<()>
     requires { M.is_of m.now out }
 {
-    let start = Instant::now(rt)?;
     let mut out = out;
     for _ in 0..turns {
         let (again, value) = ReadersWriters::start_write(m, rt, out);
@@ -182,7 +173,7 @@ fn start_end_write<R: Wait + Clock, M: Monitor<ReadersWriters<u64>>>(
         written?;
         out = again;
     }
-    Ok(start.elapsed(rt)?)
+    Ok(())
 }
 
 /// What one thread does with the data that are read and written.
@@ -205,8 +196,10 @@ pub fn read_or_write<R: Wait + Eprint + Clock, M: Monitor<ReadersWriters<u64>>>(
     requires { All (M.is_of m.now) places.items }
 {
     let out = last_place(m, places)?;
+    let start = Instant::now(rt)?;
     match visit {
-        Visit::Read => start_end_read(rt, m, out, turns),
-        Visit::Write => start_end_write(rt, m, out, turns),
+        Visit::Read => start_end_read(rt, m, out, turns)?,
+        Visit::Write => start_end_write(rt, m, out, turns)?,
     }
+    Ok(start.elapsed(rt)?)
 }

@@ -115,7 +115,7 @@ pub fn buffer_row<R: Clock + Threads + Wait + Sync>(
     count: usize,
     load: BufferLoad,
     turns: u64,
-) -> anyhow::Result<Duration> {
+) -> io::Result<Duration> {
     on_places!(
         kind,
         rt,
@@ -264,7 +264,7 @@ fn time_of<R: Eprint + Clock + Threads + Wait + Sync>(
     match row.load {
         Load::Counter(load) => counter_row(rt, alloc, kind, count, load, turns),
         Load::Wide(load) => Ok(wide_row(rt, alloc, kind, count, load, turns)?),
-        Load::Buffer(load) => buffer_row(rt, alloc, kind, count, load, turns),
+        Load::Buffer(load) => Ok(buffer_row(rt, alloc, kind, count, load, turns)?),
         Load::MesaBuffer => Ok(mesa_row(rt, alloc, kind, count, turns)?),
         Load::Mixed => Ok(mixed_row(rt, alloc, kind, count, turns)?),
         Load::Single => single_row(rt, alloc, kind, turns),

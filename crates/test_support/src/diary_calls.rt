@@ -77,47 +77,6 @@ pub fn pass<R: Wait, M: Monitor<Diary>>(
     out
 }
 
-fn signal<R: Wait, M: Monitor<Diary>>(
-    rt: &R,
-    m: &M,
-    inside: M::In,
-    place: usize,
-    condition: usize,
-    stamp: u64,
-) -> M::In
-    requires of { M.is_of_in m.now inside }
-    requires condition { condition < 2 }
-    ensures of { M.is_of_in m.now result }
-    ensures place { M.place_in result ≡ M.place_in inside }
-{
-    let inside = left(m, inside, place, Act::Signals(condition), stamp);
-    let (inside, resumed) = m.signal(rt, inside, condition);
-    let act = if resumed {
-        Act::IsBack
-    } else {
-        Act::HearsNobody
-    };
-    found(m, inside, place, act)
-}
-
-fn notify<M: Monitor<Diary>>(
-    m: &M,
-    inside: M::In,
-    place: usize,
-    condition: usize,
-    stamp: u64,
-) -> M::In
-    requires of { M.is_of_in m.now inside }
-    requires in_range { condition < 4 }
-    requires mesa { 2 ≤ condition }
-    ensures of { M.is_of_in m.now result }
-    ensures place { M.place_in result ≡ M.place_in inside }
-{
-    let mut inside = left(m, inside, place, Act::Notifies(condition), stamp);
-    let answer = m.notify(&mut inside, condition);
-    found(m, inside, place, Act::HasNotified(answer))
-}
-
 /// Notifies all waiters on `condition`, a Mesa condition, and leaves `stamp`.
 pub fn broadcast<M: Monitor<Diary>>(
     m: &M,
@@ -153,12 +112,21 @@ pub fn rouse<R: Wait, M: Monitor<Diary>>(
     ensures place { M.place_in result ≡ M.place_in inside }
 {
     if condition < HOARE {
-        return signal(rt, m, inside, place, condition, lot);
+        let inside = left(m, inside, place, Act::Signals(condition), lot);
+        let (inside, resumed) = m.signal(rt, inside, condition);
+        let act = if resumed {
+            Act::IsBack
+        } else {
+            Act::HearsNobody
+        };
+        return found(m, inside, place, act);
     }
-    if lot / 256 % 2 == 0 {
-        return notify(m, inside, place, condition, lot);
+    if lot / 256 % 2 == 1 {
+        return broadcast(m, inside, place, condition, lot);
     }
-    broadcast(m, inside, place, condition, lot)
+    let mut inside = left(m, inside, place, Act::Notifies(condition), lot);
+    let answer = m.notify(&mut inside, condition);
+    found(m, inside, place, Act::HasNotified(answer))
 }
 
 /// Waits on `condition`, with a priority from 0 to 3 taken from `lot`. Leaves `lot` as the stamp.

@@ -60,7 +60,7 @@ reached d = priority_at d.cylmax d.direction d.headpos
 abbrev pub stops : {T : Type 0} → Disk T → Direction → ℕ → ℕ
 stops d own p = if sweep d.direction == sweep own then p - reached d - 1 else d.cylmax - reached d + p
 
--- the number of grants that are made to others first: those due at the cylinder under the head; at each stop as many as
+-- the most grants that are made to others first: those due at the cylinder under the head; at each stop as many as
 -- wait, without the request and the k others before it; and those k
 abbrev pub grants_before : {T : Type 0} → ℕ → Disk T → Direction → ℕ → ℕ → ℕ
 grants_before m d own p k = d.stay + stops d own p * (m - suc k) + k

@@ -138,8 +138,8 @@ impl<T: Drop> Head<T> {
     }
 
     /// Returns the number of grants that are still due at the cylinder under the head, while the drive is out: so many
-    /// requests wait for that cylinder and the present sweep, and no other request joins them. While the drive is in,
-    /// the number has no meaning.
+    /// requests wait for that cylinder and the present sweep, and no other request joins them. If the drive is in and
+    /// isn't being handed off, the number has no meaning.
     pub fn stay(&self) -> usize
         ensures { result ≡ self.now.stay }
     {

@@ -2,13 +2,13 @@
 mod agreeing;
 mod bounds;
 mod filling;
-mod plain;
 mod sized;
 mod steps;
 mod texts;
 
 use crate::tests::compared::expect_same;
-use plain::Plain;
+use crate::tests::past::Past;
+use std::alloc::AllocError;
 use std::panic::Expect;
 use std::process::Abort;
 use wait_book::book::Book;
@@ -19,8 +19,17 @@ fn made<R: Abort + AllocGlobal>(rt: &R, places: usize, conditions: usize, mesa: 
     Book::make(rt.alloc(), places, conditions, mesa).expect(rt, "a book")
 }
 
-// Does a step, the one with this number, on the book and on the plain monitor. Fails if their answers differ.
-fn answer_alike<R: Abort>(rt: &R, number: u64, step: Step, book: &mut Book, plain: &mut Plain) {
+// Does a step, the one with this number, on the book and on the list of events. Fails if their answers differ.
+fn answer_alike<R: Abort>(
+    rt: &R,
+    number: u64,
+    step: Step,
+    book: &mut Book,
+    past: &mut Past,
+) -> Result<(), AllocError> {
     let found = book.try_step(step);
-    expect_same(rt, (number, found), (number, plain.step(step)));
+    let (wanted, _) = past.step(step)?;
+    expect_same(rt, (number, found), (number, wanted));
+    past.forget_at_rest();
+    Ok(())
 }

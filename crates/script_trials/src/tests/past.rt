@@ -58,6 +58,42 @@ impl Past {
         outside(place, self.events.as_slice())
     }
 
+    /// Returns a place that is outside, chosen by `lot`, or `None` if there is none.
+    pub fn newcomer(&self, lot: u64) -> Option<u64> {
+        let places = self.places.max(1);
+        let first = lot % places;
+        for further in 0..places {
+            let place = first.wrapping_add(further) % places;
+            if self.outside(place as usize) {
+                return Some(place);
+            }
+        }
+        None
+    }
+
+    // Returns true if all places are outside.
+    fn all_outside(&self) -> bool {
+        for place in 0..self.places {
+            if !self.outside(place as usize) {
+                return false;
+            }
+        }
+        true
+    }
+
+    /// Forgets all events if all places are outside, so that the list stays short. No later answer depends on them:
+    /// each filter leaves out the events of a place that has left since.
+    pub fn forget_at_rest(&mut self) {
+        if self.all_outside() {
+            self.events.clear();
+        }
+    }
+
+    /// Returns true if a place continues when the place inside releases the monitor.
+    pub fn is_awaited(&self) -> Result<bool, AllocError> {
+        Ok(!self.urgent()?.is_empty() || !self.called()?.is_empty())
+    }
+
     fn turn(&self) -> Result<Turn, AllocError> {
         turn(self.alloc, self.events.as_slice())
     }

@@ -1,13 +1,10 @@
-//! Compares the book with two monitors that are written independently. One filters the list of all events (`past`), the
-//! other stores the position of each place (`plain`). After each drawn step all three agree on the waiters, the
-//! notified, the turn, and which places are outside.
-use super::plain::Plain;
-use super::plain::place::Group;
+//! Compares the book with a monitor that filters the list of all its events (`past`). After each drawn step both agree
+//! on the waiters, the notified, the turn, and which places are outside.
 use super::sized::SizedBook;
 use crate::tests::compared::expect_same;
 use crate::tests::numbers::next_number;
 use crate::tests::past::Past;
-use crate::tests::past::event::{Event, Wait};
+use crate::tests::past::event::Event;
 use crate::tests::past::filters::{chosen, in_order};
 use std::alloc::{AllocError, Global};
 use std::panic::Expect;
@@ -56,63 +53,35 @@ fn count(counter: &mut usize, comes_up: bool) {
     *counter = counter.saturating_add(comes_up as usize);
 }
 
-// Returns true if a group of the plain monitor has exactly these waits, in this order.
-fn stand(plain: &Plain, group: Group, waits: &[Wait]) -> bool {
-    for at in 0..waits.len() {
-        if !plain.stands(waits[at].place as u64, group, at) {
-            return false;
-        }
-    }
-    plain.count(group) == waits.len()
-}
-
-// Returns true if these are exactly the signallers of the plain monitor, in this order.
-fn stand_signalling(plain: &Plain, places: &[usize]) -> bool {
-    for at in 0..places.len() {
-        if !plain.stands(places[at] as u64, Group::Signallers, at) {
-            return false;
-        }
-    }
-    plain.count(Group::Signallers) == places.len()
-}
-
 #[derive(Drop)]
-struct Three {
+struct Two {
     past: Past,
-    plain: Plain,
     book: SizedBook,
 }
 
-impl Three {
-    fn make(alloc: Global, places: u64, conditions: u64, mesa: u64) -> Result<Three, MakeRefused> {
-        Ok(Three {
+impl Two {
+    fn make(alloc: Global, places: u64, conditions: u64, mesa: u64) -> Result<Two, MakeRefused> {
+        Ok(Two {
             past: Past::new(alloc, places, conditions, mesa),
-            plain: Plain::new(places, conditions, mesa),
             book: SizedBook::make(alloc, places as usize, conditions as usize, mesa as usize)?,
         })
     }
 
-    // Does a step on all three. Returns true if all three give the same answer.
+    // Does a step on both. Returns true if both give the same answer.
     fn step(&mut self, step: Step, tally: &mut Tally) -> Result<bool, AllocError> {
         let told = self.past.step(step)?;
         let (answer, calls) = told;
         count(&mut tally.done, answer.is_ok());
         count(&mut tally.refused, answer.is_err());
         count(&mut tally.broadcasts_of_several, calls > 1);
-        Ok(self.plain.step(step) == answer && self.book.step(step) == told)
-    }
-
-    // Returns true if the plain monitor and the book have these waiters on a condition, in this order.
-    fn have_waiting(&self, condition: usize, waits: &[Wait]) -> bool {
-        stand(&self.plain, Group::On(condition as u64), waits)
-            && self.book.has_waiting(condition, waits)
+        Ok(self.book.step(step) == told)
     }
 
     fn agree_on(&self, condition: usize) -> Result<bool, AllocError> {
         let by_time = self.past.waiting(condition)?;
         let waits = in_order(self.past.alloc, by_time.as_slice())?;
         let same_first = chosen(by_time.as_slice()) == waits.first().copied();
-        let same_waits = self.have_waiting(condition, waits.as_slice());
+        let same_waits = self.book.has_waiting(condition, waits.as_slice());
         Ok(same_first && same_waits)
     }
 
@@ -125,53 +94,31 @@ impl Three {
         Ok(true)
     }
 
-    // Returns true if all three agree on whether a place is outside.
-    fn agree_on_place(&self, place: u64) -> bool {
-        let outside = self.past.outside(place as usize);
-        self.plain.outside(place) == outside && self.book.outside(place as usize) == outside
-    }
-
     fn agree_outside(&self) -> bool {
-        for place in 0..self.past.places {
-            if !self.agree_on_place(place) {
+        for place in 0..self.past.places as usize {
+            if self.book.outside(place) != self.past.outside(place) {
                 return false;
             }
         }
         true
     }
 
-    // Returns true if the list and the plain monitor agree on the notified places and the signallers. The book shows
-    // these places as the turn, when each of them is to continue.
+    // Returns true if both have the same notified places, in the same order. No call of the book returns the
+    // signallers: each of them is compared as the turn, when it is to continue.
     fn agree_to_come(&self, tally: &mut Tally) -> Result<bool, AllocError> {
         let signallers = self.past.urgent()?;
         let called = self.past.called()?;
         count(&mut tally.several_called, called.len() > 1);
         let beside = !called.is_empty() && !signallers.is_empty();
         count(&mut tally.beside_signallers, beside);
-        let same_signallers = stand_signalling(&self.plain, signallers.as_slice());
-        let same_called = stand(&self.plain, Group::Called, called.as_slice());
-        Ok(same_signallers && same_called)
+        Ok(self.book.has_called(called.as_slice()))
     }
 
     fn agree(&self, tally: &mut Tally) -> Result<bool, AllocError> {
-        let now = self.past.now()?;
-        let same_turn = self.plain.now() == now && self.book.now() == now;
+        let same_turn = self.book.now() == self.past.now()?;
         let same_waits = self.agree_on_all()?;
         let same_to_come = self.agree_to_come(tally)?;
         Ok(same_turn && same_waits && same_to_come && self.agree_outside())
-    }
-
-    // Returns a place that is outside, chosen by `lot`, or `None` if there is none.
-    fn newcomer(&self, lot: u64) -> Option<u64> {
-        let places = self.past.places.max(1);
-        let first = lot % places;
-        for further in 0..places {
-            let place = first.wrapping_add(further) % places;
-            if self.plain.outside(place) {
-                return Some(place);
-            }
-        }
-        None
     }
 
     // Returns a step of any place; mostly it is refused.
@@ -191,26 +138,26 @@ impl Three {
 
     // Returns a step of the place inside that isn't refused. It may be a wait only if another process can continue
     // afterwards.
-    fn suited(&self, place: u64, lot: u64) -> Step {
+    fn suited(&self, place: u64, lot: u64) -> Result<Step, AllocError> {
         let condition = lot / 64 % self.past.conditions.max(1);
-        let goes_on = self.newcomer(lot).is_some() || self.plain.is_awaited();
-        match (lot % 16, self.past.is_mesa(condition)) {
+        let goes_on = self.past.newcomer(lot).is_some() || self.past.is_awaited()?;
+        Ok(match (lot % 16, self.past.is_mesa(condition)) {
             (0..=7, _) if goes_on => Step::Wait(place, condition, lot / 1024 % 3),
             (0..=11, false) => Step::Signal(place, condition),
             (12, false) => Step::Pass(place, condition),
             (0..=9, true) => Step::Notify(place, condition),
             (10..=13, true) => Step::Broadcast(place, condition),
             _ => Step::Leave(place),
-        }
+        })
     }
 
     // Returns the next step; mostly it isn't refused.
-    fn drawn(&self, lot: u64) -> Step {
+    fn drawn(&self, lot: u64) -> Result<Step, AllocError> {
         let further = lot / 16;
-        match (self.plain.now(), self.newcomer(further)) {
+        match (self.past.now()?, self.past.newcomer(further)) {
             (Next::Held(place), _) if lot % 16 != 0 => self.suited(place as u64, further),
-            (Next::Free, Some(place)) if lot % 16 != 0 => Step::Enter(place),
-            _ => self.strange(further),
+            (Next::Free, Some(place)) if lot % 16 != 0 => Ok(Step::Enter(place)),
+            _ => Ok(self.strange(further)),
         }
     }
 }
@@ -240,26 +187,26 @@ fn calls_again(past: &Past) -> usize {
     found
 }
 
-// Does `STEPS` drawn steps, seeded with `number`. Returns true if all three agree after each of them.
-fn agree_throughout(three: &mut Three, number: u64, tally: &mut Tally) -> Result<bool, AllocError> {
+// Does `STEPS` drawn steps, seeded with `number`. Returns true if both agree after each of them.
+fn agree_throughout(two: &mut Two, number: u64, tally: &mut Tally) -> Result<bool, AllocError> {
     let mut lot = number;
     for _ in 0..STEPS {
         lot = next_number(lot);
-        let step = three.drawn(lot >> 24);
-        if !three.step(step, tally)? || !three.agree(tally)? {
+        let step = two.drawn(lot >> 24)?;
+        if !two.step(step, tally)? || !two.agree(tally)? {
             return Ok(false);
         }
     }
-    tally.called_again = tally.called_again.saturating_add(calls_again(&three.past));
+    tally.called_again = tally.called_again.saturating_add(calls_again(&two.past));
     Ok(true)
 }
 
-// Runs the history with this number. Returns true if all three agree throughout.
+// Runs the history with this number. Returns true if both agree throughout.
 fn history<R: Abort + AllocGlobal>(rt: &R, number: u64, tally: &mut Tally) -> bool {
     let (conditions, mesa) = KINDS[(number / 8 % 14) as usize];
-    let made = Three::make(rt.alloc(), number % 8 + 1, conditions, mesa);
-    let mut three = made.expect(rt, "three monitors");
-    agree_throughout(&mut three, number, tally).expect(rt, "memory for lists")
+    let made = Two::make(rt.alloc(), number % 8 + 1, conditions, mesa);
+    let mut two = made.expect(rt, "two monitors");
+    agree_throughout(&mut two, number, tally).expect(rt, "memory for lists")
 }
 
 // Returns by how much each count of the tally is below what the test requires.
@@ -276,7 +223,7 @@ fn missing(tally: &Tally) -> [usize; 6] {
 
 // 224,000 drawn steps, of 1 to 8 places on 1 to 4 conditions, of which none to all are Mesa conditions.
 #[test]
-fn three_monitors_agree(rt: HostRuntime) {
+fn book_agrees_with_the_list(rt: HostRuntime) {
     let mut tally = Tally::default();
     for number in 0..HISTORIES {
         let agree = history(&rt, number, &mut tally);

@@ -1,12 +1,13 @@
-//! Fills and empties all chains of a book in turn, and compares it with `plain`, which has the filters of the
-//! definitions written once more.
+//! Fills and empties all chains of a book in turn, and compares it with the list of events (`past`).
 
-use super::plain::Plain;
-use super::plain::place::Group;
 use super::{answer_alike, made};
 use crate::tests::compared::expect_same;
 use crate::tests::numbers::next_number;
+use crate::tests::past::Past;
+use crate::tests::past::filters::in_order;
 use hoare_law::waits::Waits;
+use std::alloc::AllocError;
+use std::test::Fail;
 use wait_book::book::Book;
 use wait_book::steps::{Next, Step};
 
@@ -19,11 +20,9 @@ enum Kind {
     OneOfFour,
     // Waiters are resumed by passes; in the other kinds by signals.
     Passed,
-    // Any step on any condition.
-    Mixed,
 }
 
-// 2,000 steps: the first half fills the chain of a condition. The second half empties it, and fills and empties the
+// 400 steps: the first half fills the chain of a condition. The second half empties it, and fills and empties the
 // chain of the signallers.
 #[derive(Clone, Copy)]
 struct Part {
@@ -33,18 +32,17 @@ struct Part {
 }
 
 fn part_of(i: u64) -> Part {
-    let kind = match i / 16_000 {
+    let kind = match i / 3_200 {
         0 => Kind::Equal,
         1 => Kind::Rising,
         2 => Kind::Falling,
         3 => Kind::OneOfFour,
-        4 => Kind::Passed,
-        _ => Kind::Mixed,
+        _ => Kind::Passed,
     };
     Part {
-        condition: (i / 2_000) % 8,
+        condition: (i / 400) % 8,
         kind,
-        fills: i % 2_000 < 1_000,
+        fills: i % 400 < 200,
     }
 }
 
@@ -53,54 +51,66 @@ fn priority_of(kind: Kind, i: u64, number: u64) -> u64 {
         Kind::Equal => 7,
         Kind::Rising => i,
         Kind::Falling => u64::MAX - i,
-        Kind::OneOfFour | Kind::Passed | Kind::Mixed => (number >> 24) % 4,
+        Kind::OneOfFour | Kind::Passed => (number >> 24) % 4,
     }
 }
 
-// Returns any step of the place inside, now and then on a condition that doesn't exist. Place 0 never waits, so that a
-// process can always enter.
-fn mixed_step(place: u64, number: u64) -> Step {
-    let condition = (number >> 16) % 9;
-    match (number >> 40) % 8 {
-        0 | 1 | 2 if place != 0 => Step::Wait(place, condition, (number >> 24) % 4),
-        6 => Step::Pass(place, condition),
-        7 => Step::Leave(place),
-        _ => Step::Signal(place, condition),
+// Returns the entry of a place: mostly of one that is outside, and of place 0 only if no other is.
+fn entry(past: &Past, number: u64) -> Step {
+    let any = (number >> 32) % 64;
+    if number >> 61 == 0 {
+        return Step::Enter(any);
+    }
+    match past.newcomer(any) {
+        Some(0) | None => Step::Enter(past.newcomer(1).unwrap_or(0)),
+        Some(place) => Step::Enter(place),
     }
 }
 
-fn step_of(part: Part, i: u64, plain: &Plain, number: u64) -> Step {
-    let (Next::Held(inside) | Next::For(inside)) = plain.now() else {
-        return Step::Enter((number >> 32) % 64);
+fn step_of(part: Part, i: u64, past: &Past, number: u64) -> Result<Step, AllocError> {
+    let (Next::Held(inside) | Next::For(inside)) = past.now()? else {
+        return Ok(entry(past, number));
     };
     let place = inside as u64;
-    if matches!(part.kind, Kind::Mixed) {
-        return mixed_step(place, number);
-    }
     if part.fills && place != 0 {
-        return Step::Wait(place, part.condition, priority_of(part.kind, i, number));
+        let priority = priority_of(part.kind, i, number);
+        return Ok(Step::Wait(place, part.condition, priority));
     }
-    if part.fills || plain.count(Group::On(part.condition)) == 0 {
-        return Step::Leave(place);
+    if part.fills || past.waiting(part.condition as usize)?.is_empty() {
+        return Ok(Step::Leave(place));
     }
     if matches!(part.kind, Kind::Passed) {
-        return Step::Pass(place, part.condition);
+        return Ok(Step::Pass(place, part.condition));
     }
-    Step::Signal(place, part.condition)
+    Ok(Step::Signal(place, part.condition))
 }
 
 // Returns true if as many places wait on a condition in both, with the same first and last priority.
-fn is_like(book: &Book, plain: &Plain, condition: u64) -> bool {
-    let count = book.count(condition as usize);
-    if count != plain.count(Group::On(condition)) {
-        return false;
+fn is_like(book: &Book, past: &Past, condition: u64) -> Result<bool, AllocError> {
+    let condition = condition as usize;
+    let waits = in_order(past.alloc, past.waiting(condition)?.as_slice())?;
+    let count = book.count(condition);
+    if count != waits.len() {
+        return Ok(false);
     }
     if count == 0 {
-        return true;
+        return Ok(true);
     }
-    let first = book.priority(condition as usize, 0);
-    let last = book.priority(condition as usize, count - 1);
-    plain.extremes(condition) == Some((first, last))
+    let first = waits.first().map(|wait| wait.priority);
+    let last = waits.last().map(|wait| wait.priority);
+    Ok(
+        first == Some(book.priority(condition, 0))
+            && last == Some(book.priority(condition, count - 1)),
+    )
+}
+
+// Returns how many places wait on all conditions together.
+fn waiting_anywhere(past: &Past) -> Result<usize, AllocError> {
+    let mut count: usize = 0;
+    for condition in 0..past.conditions {
+        count = count.saturating_add(past.waiting(condition as usize)?.len());
+    }
+    Ok(count)
 }
 
 // Returns what is expected of a half: how many places wait at its end, the most signallers at once during it, and how
@@ -115,69 +125,119 @@ fn fullest(part: Part) -> (usize, usize, usize) {
     }
 }
 
-// 100,000 steps of 64 places. Each of the eight chains and the chain of the signallers is filled up to 63 and emptied
-// again, with equal, rising, falling and mixed priorities; at the end all chains are used together.
+// 16,000 steps of 64 places. Each of the eight chains and the chain of the signallers is filled up to 63 and emptied
+// again, with equal, rising, falling and mixed priorities.
 #[test]
-fn fills_and_empties_all_chains(rt: HostRuntime) {
+fn fills_and_empties_all_chains(rt: HostRuntime) -> Result<(), Fail> {
     let mut book = made(&rt, 64, 8, 0);
-    let mut plain = Plain::new(64, 8, 0);
+    let mut past = Past::new(rt.alloc(), 64, 8, 0);
     let mut number = 1;
     let mut most = 0;
-    for i in 0..100_000 {
+    for i in 0..16_000 {
         number = next_number(number);
         let part = part_of(i);
-        let step = step_of(part, i, &plain, number);
-        answer_alike(&rt, i, step, &mut book, &mut plain);
-        let alike = is_like(&book, &plain, (number >> 56) % 8);
+        let step = step_of(part, i, &past, number)?;
+        answer_alike(&rt, i, step, &mut book, &mut past)?;
+        let alike = is_like(&book, &past, (number >> 56) % 8)?;
         expect_same(&rt, (i, alike), (i, true));
-        let signallers = plain.count(Group::Signallers);
+        let signallers = past.urgent()?.len();
         most = most.max(signallers);
-        if !matches!(part.kind, Kind::Mixed) && i % 1_000 == 999 {
-            let counts = (plain.count(Group::On(part.condition)), most, signallers);
+        if i % 200 == 199 {
+            let counts = (waiting_anywhere(&past)?, most, signallers);
             expect_same(&rt, (i, counts), (i, fullest(part)));
             most = 0;
         }
     }
+    Ok(())
 }
 
-// Returns a step of the place inside. If `fills`, it waits on Mesa condition 7, except place 0, which leaves. Else it
-// notifies all that wait there, and then the places leave.
-fn calling_step(plain: &Plain, fills: bool, number: u64) -> Step {
-    let (Next::Held(inside) | Next::For(inside)) = plain.now() else {
-        return Step::Enter((number >> 32) % 64);
+// Returns a step of an entering place, or of the place inside, now and then on a condition that doesn't exist. If
+// `fills`, it is any step of the place inside, except that place 0 never waits, so that a process can always enter. Else
+// it is a pass.
+fn mixed_step(past: &Past, fills: bool, number: u64) -> Result<Step, AllocError> {
+    let (Next::Held(inside) | Next::For(inside)) = past.now()? else {
+        return Ok(entry(past, number));
+    };
+    let (place, condition) = (inside as u64, (number >> 16) % 9);
+    if !fills {
+        return Ok(Step::Pass(place, condition));
+    }
+    Ok(match (number >> 40) % 8 {
+        0 | 1 | 2 if place != 0 => Step::Wait(place, condition, (number >> 24) % 4),
+        6 => Step::Pass(place, condition),
+        7 => Step::Leave(place),
+        _ => Step::Signal(place, condition),
+    })
+}
+
+// 10,000 steps of 64 places, with all chains used together. In the second half of each 500 steps passes empty them all.
+#[test]
+fn uses_all_chains_together(rt: HostRuntime) -> Result<(), Fail> {
+    let mut book = made(&rt, 64, 8, 0);
+    let mut past = Past::new(rt.alloc(), 64, 8, 0);
+    let mut number = 1;
+    for i in 0..10_000u64 {
+        number = next_number(number);
+        let step = mixed_step(&past, i % 500 < 250, number)?;
+        answer_alike(&rt, i, step, &mut book, &mut past)?;
+        let alike = is_like(&book, &past, (number >> 56) % 8)?;
+        expect_same(&rt, (i, alike), (i, true));
+        if i % 500 == 499 {
+            let counts = (waiting_anywhere(&past)?, past.urgent()?.len());
+            expect_same(&rt, (i, counts), (i, (0, 0)));
+        }
+    }
+    Ok(())
+}
+
+// Returns a step of an entering place, or of the place inside. If `fills`, that waits on Mesa condition 7, except place
+// 0, which leaves. Else it notifies all that wait there, and then the places leave.
+fn calling_step(past: &Past, fills: bool, number: u64) -> Result<Step, AllocError> {
+    let (Next::Held(inside) | Next::For(inside)) = past.now()? else {
+        return Ok(entry(past, number));
     };
     let place = inside as u64;
     if fills && place != 0 {
-        return Step::Wait(place, 7, (number >> 24) % 4);
+        return Ok(Step::Wait(place, 7, (number >> 24) % 4));
     }
-    if fills || plain.count(Group::On(7)) == 0 {
-        return Step::Leave(place);
+    if fills || past.waiting(7)?.is_empty() {
+        return Ok(Step::Leave(place));
     }
     if (number >> 40) % 16 == 0 {
-        return Step::Broadcast(place, 7);
+        return Ok(Step::Broadcast(place, 7));
     }
-    Step::Notify(place, 7)
+    Ok(Step::Notify(place, 7))
 }
 
-// 10,000 steps. The chain of a Mesa condition is filled up to 63. Broadcasts or notifies empty it into the chain of the
+// Returns how many places the book has among the notified.
+fn called_of(book: &Book) -> usize {
+    let mut count: usize = 0;
+    for place in 0..64usize {
+        count = count.saturating_add((book.number_called(place) > 0) as usize);
+    }
+    count
+}
+
+// 2,000 steps. The chain of a Mesa condition is filled up to 63. Broadcasts or notifies empty it into the chain of the
 // notified, which leaves then empty.
 #[test]
-fn fills_and_empties_the_called(rt: HostRuntime) {
+fn fills_and_empties_the_called(rt: HostRuntime) -> Result<(), Fail> {
     let mut book = made(&rt, 64, 8, 1);
-    let mut plain = Plain::new(64, 8, 1);
+    let mut past = Past::new(rt.alloc(), 64, 8, 1);
     let mut number = 1;
     let mut most = 0;
-    for i in 0..10_000u64 {
+    for i in 0..2_000u64 {
         number = next_number(number);
-        let step = calling_step(&plain, i % 2_000 < 1_000, number);
-        answer_alike(&rt, i, step, &mut book, &mut plain);
-        let alike = is_like(&book, &plain, 7);
-        expect_same(&rt, (i, alike), (i, true));
-        let called = plain.count(Group::Called);
+        let step = calling_step(&past, i % 400 < 200, number)?;
+        answer_alike(&rt, i, step, &mut book, &mut past)?;
+        let called = past.called()?.len();
+        let found = (is_like(&book, &past, 7)?, called_of(&book));
+        expect_same(&rt, (i, found), (i, (true, called)));
         most = most.max(called);
-        if i % 2_000 == 1_999 {
+        if i % 400 == 399 {
             expect_same(&rt, (i, called, most), (i, 0, 63));
             most = 0;
         }
     }
+    Ok(())
 }

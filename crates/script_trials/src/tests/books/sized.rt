@@ -10,6 +10,16 @@ use std::alloc::Global;
 use wait_book::book::Book;
 use wait_book::steps::{MakeRefused, Next, Step, StepRefused};
 
+// Returns the number of `place` among the places of these waits, counted from 1, or 0 if it isn't among them.
+fn number_among(waits: &[Wait], place: usize) -> usize {
+    for at in 0..waits.len() {
+        if waits[at].place == place {
+            return at.saturating_add(1);
+        }
+    }
+    0
+}
+
 /// A book with the sizes of its monitor.
 #[derive(Drop)]
 pub struct SizedBook {
@@ -91,6 +101,16 @@ impl SizedBook {
     fn broadcast(&mut self, place: u64, condition: u64) -> Option<usize> {
         let (place, condition) = self.caller(place, condition)?;
         Some(self.book.broadcast(place, condition))
+    }
+
+    /// Returns true if exactly these are notified and haven't resumed, in the order in which they resume.
+    pub fn has_called(&self, waits: &[Wait]) -> bool {
+        for place in 0..self.sizes.places {
+            if self.book.number_called(place) != number_among(waits, place) {
+                return false;
+            }
+        }
+        true
     }
 
     /// Returns true if exactly these wait on a condition, in the order in which signals would resume them.

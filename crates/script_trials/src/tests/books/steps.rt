@@ -1,9 +1,10 @@
 //! Steps of a book, and the answer to each.
-use super::plain::Plain;
 use super::{answer_alike, made};
 use crate::tests::compared::expect_same;
 use crate::tests::numbers::next_number;
+use crate::tests::past::Past;
 use hoare_law::waits::Waits;
+use std::alloc::AllocError;
 use std::process::Abort;
 use std::test::Fail;
 use wait_book::book::Book;
@@ -209,43 +210,47 @@ fn mixed_step(now: Next, waits: u64, number: u64) -> Step {
     }
 }
 
-// 10,000 steps of 64 places on 8 conditions, in alternation with many and with few waits. Their answers agree with the
-// filters of the definitions. No step allocates: `rt try --test --fail-alloc N` passes with this test from the same N
-// on as without.
-#[test]
-fn long_mixed_run(rt: HostRuntime) {
-    let mut book = made(&rt, 64, 8, 0);
-    let mut plain = Plain::new(64, 8, 0);
-    let mut number = 1;
-    for i in 0..10_000 {
-        number = next_number(number);
-        let waits = if i % 2_000 < 1_000 { 5 } else { 2 };
-        let step = mixed_step(plain.now(), waits, number);
-        answer_alike(&rt, i, step, &mut book, &mut plain);
-    }
-}
-
-// Replaces steps on the last four conditions: a signal by a notify, and some passes by a broadcast.
-fn mesa_step(step: Step, number: u64) -> Step {
+// Replaces steps on the last `mesa` of eight conditions: a signal by a notify, and some passes by a broadcast.
+fn mesa_step(step: Step, mesa: u64, number: u64) -> Step {
+    let hoare = 8u64.saturating_sub(mesa);
     match step {
-        Step::Signal(place, condition) if condition >= 4 => Step::Notify(place, condition),
-        Step::Pass(place, condition) if condition >= 4 && number % 2 == 0 => {
+        Step::Signal(place, condition) if condition >= hoare => Step::Notify(place, condition),
+        Step::Pass(place, condition) if condition >= hoare && number % 2 == 0 => {
             Step::Broadcast(place, condition)
         }
         _ => step,
     }
 }
 
-// As `long_mixed_run`, on four conditions of each kind. A pass on a Mesa condition is refused now and then.
-#[test]
-fn long_mesa_run(rt: HostRuntime) {
-    let mut book = made(&rt, 64, 8, 4);
-    let mut plain = Plain::new(64, 8, 4);
-    let mut number = 1;
-    for i in 0..10_000 {
+// Does 500 steps of 64 places on 8 conditions, of which the last `mesa` are Mesa conditions: the first half with many
+// waits, the other with few. Fails if an answer differs from that of the list of events.
+fn mixed_run<R: Abort + AllocGlobal>(rt: &R, seed: u64, mesa: u64) -> Result<(), AllocError> {
+    let mut book = made(rt, 64, 8, mesa as usize);
+    let mut past = Past::new(rt.alloc(), 64, 8, mesa);
+    let mut number = seed;
+    for i in 0..500 {
         number = next_number(number);
-        let waits = if i % 2_000 < 1_000 { 5 } else { 2 };
-        let step = mesa_step(mixed_step(plain.now(), waits, number), number);
-        answer_alike(&rt, i, step, &mut book, &mut plain);
+        let waits = if i < 250 { 5 } else { 2 };
+        let step = mesa_step(mixed_step(past.now()?, waits, number), mesa, number);
+        answer_alike(rt, i, step, &mut book, &mut past)?;
     }
+    Ok(())
+}
+
+// 10,000 steps, on Hoare's conditions alone.
+#[test]
+fn long_mixed_runs(rt: HostRuntime) -> Result<(), Fail> {
+    for seed in 1..=20 {
+        mixed_run(&rt, seed, 0)?;
+    }
+    Ok(())
+}
+
+// 10,000 steps, on four conditions of each kind. A pass on a Mesa condition is refused now and then.
+#[test]
+fn long_mesa_runs(rt: HostRuntime) -> Result<(), Fail> {
+    for seed in 1..=20 {
+        mixed_run(&rt, seed, 4)?;
+    }
+    Ok(())
 }

@@ -35,6 +35,19 @@ pub fn waiting(alloc: Global, condition: usize, events: &[Event]) -> Result<Vec<
     Ok(found)
 }
 
+// Returns the wait of a place if it waits on a condition.
+fn wait_of(place: usize, condition: usize, events: &[Event]) -> Option<Wait> {
+    for at in 0..events.len() {
+        match events[at].wait_on(condition) {
+            Some(wait) if wait.place == place && is_untouched(wait, &events[at + 1..]) => {
+                return Some(wait);
+            }
+            _ => {}
+        }
+    }
+    None
+}
+
 // Returns true if none of these waits has a lesser priority than `one`.
 fn is_least(waits: &[Wait], one: Wait) -> bool {
     for other in waits {
@@ -79,8 +92,10 @@ pub fn in_order(alloc: Global, waits: &[Wait]) -> Result<Vec<Wait>, AllocError> 
 fn called_by(alloc: Global, before: &[Event], event: Event) -> Result<Vec<Wait>, AllocError> {
     match event {
         Event::Notify(_, condition, called) => {
-            let mut waits = waiting(alloc, condition, before)?;
-            waits.retain(|wait| wait.place == called);
+            let mut waits = Vec::new(alloc);
+            if let Some(wait) = wait_of(called, condition, before) {
+                waits.push(wait)?;
+            }
             Ok(waits)
         }
         Event::Broadcast(_, condition) => {
@@ -101,12 +116,24 @@ fn add_idle(found: &mut Vec<Wait>, waits: &[Wait], later: &[Event]) -> Result<()
     Ok(())
 }
 
+// Returns false if an event notified no place, or one that has an event in `later`.
+fn is_open(event: Event, later: &[Event]) -> bool {
+    match event {
+        Event::Notify(_, _, called) => is_idle(called, later),
+        Event::Broadcast(_, _) => true,
+        _ => false,
+    }
+}
+
 /// Returns the waits of the places that were notified and have not resumed, in the order of the notifications.
 pub fn called(alloc: Global, events: &[Event]) -> Result<Vec<Wait>, AllocError> {
     let mut found = Vec::new(alloc);
     for at in 0..events.len() {
-        let waits = called_by(alloc, &events[..at], events[at])?;
-        add_idle(&mut found, waits.as_slice(), &events[at + 1..])?;
+        let later = &events[at + 1..];
+        if is_open(events[at], later) {
+            let waits = called_by(alloc, &events[..at], events[at])?;
+            add_idle(&mut found, waits.as_slice(), later)?;
+        }
     }
     Ok(found)
 }

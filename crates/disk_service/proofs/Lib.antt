@@ -1,4 +1,4 @@
-pub mod Seats
+pub mod FirstPlaces
 pub mod Making
 pub mod EachJob
 pub mod Sleeping

@@ -15,7 +15,7 @@ use Rattle.disk_service.specs.declared.data.Drive.{Drive}
 use Rattle.disk_service.specs.declared.data.Totals.{Totals}
 use Rattle.disk_service.specs.declared.data.Board.{Board}
 use Rattle.disk_service.specs.declared.doors.Doors.{Doors}
-use Rattle.disk_service.specs.declared.seat.Seat.{Seat}
+use Rattle.disk_service.specs.declared.thread_places.ThreadPlaces.{ThreadPlaces}
 use Rattle.disk_service.specs.declared.places.Places.{Places}
 
 -- what a monitor of these data asks of each wait, leave and signal, and the kinds of its conditions
@@ -56,14 +56,14 @@ totals_terms = terms (λ s q. SingleRests s (q 0)) (λ c p s q. SingleReady s) (
 abbrev pub board_terms : Terms (Shared Board)
 board_terms = terms (λ s q. ReadersRest s (q 0) (q 1)) (λ c p s q. ReadersReady c s) (kinds_of 2 0)
 
--- each place of the seat is the place of its door with the seat's number
-pub record IsSeat (d : Doors) (s : Seat) : Type 0 where
-  pub items : IsAt items_terms (id_of d.items) s.number s.items
-  pub clock : IsAt clock_terms (id_of d.clock) s.number s.clock
-  pub pool : IsAt pool_terms (id_of d.pool) s.number s.pool
-  pub head : IsAt head_terms (id_of d.head) s.number s.head
-  pub totals : IsAt totals_terms (id_of d.totals) s.number s.totals
-  pub board : IsAt board_terms (id_of d.board) s.number s.board
+-- each of the thread's places is the place of its door with their number
+pub record AreThreadPlaces (d : Doors) (own : ThreadPlaces) : Type 0 where
+  pub items : IsAt items_terms (id_of d.items) own.number own.items
+  pub clock : IsAt clock_terms (id_of d.clock) own.number own.clock
+  pub pool : IsAt pool_terms (id_of d.pool) own.number own.pool
+  pub head : IsAt head_terms (id_of d.head) own.number own.head
+  pub totals : IsAt totals_terms (id_of d.totals) own.number own.totals
+  pub board : IsAt board_terms (id_of d.board) own.number own.board
 
 -- the first n places of each door are there, in order
 pub record AreThere (d : Doors) (n : ℕ) (p : Places) : Type 0 where

@@ -29,7 +29,7 @@ pub data HandsOut (k : ℕ) (f : History (Buffered Item)) : List Item → Histor
   one_more : (before after : List Item) (item : Item) (g h : History (Buffered Item)) → HandsOut k f before g
       → Appends k item g h → after ≡ before ++ item ∷ [] → HandsOut k f after h
 
--- what was handed out, if starting the workers ended with this result, and this number of rooms is left in the desk.
+-- what was handed out, if starting the workers ended with this result, and the caller has this number of rooms left.
 -- The room of each worker that was started is taken out, and so is that of the worker that couldn't be started
 abbrev pub HandsBy : JobList → ℕ → ℕ → History (Buffered Item) → History (Buffered Item) → Result (Unit {0})
     ServiceFault → Type 0

@@ -1,5 +1,5 @@
 pub mod Doors
-pub mod Desks
+pub mod CallerStates
 pub mod Runs
 pub mod Made
 pub mod EachJob

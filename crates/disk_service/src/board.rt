@@ -1,33 +1,33 @@
 //! Writing on the board, and reading it.
 ghost use Rattle.std.specs.Prelude.{◌≡◌};
-ghost use Rattle.disk_service.specs.Doors.{IsSeat};
+ghost use Rattle.disk_service.specs.Doors.{AreThreadPlaces};
 
 use crate::data::Board;
 use crate::doors::Doors;
-use crate::seat::Seat;
+use crate::thread_places::ThreadPlaces;
 use hoare_law::monitor::Monitor;
 use std::sync::Wait;
 use sweep_schedulers::readers_writers::{NoReader, ReadPass, ReadersWriters};
 
-/// Writes on the board that `more` jobs are done and, if `last`, that no more will be. Returns the seat, and true if
-/// the board took it.
+/// Writes on the board that `more` jobs are done and, if `last`, that no more will be. Returns the thread's places, and
+/// true if the board took it.
 pub(crate) fn write<R: Wait>(
     rt: &R,
     doors: &Doors,
-    seat: Seat,
+    own: ThreadPlaces,
     more: u32,
     last: bool,
-) -> (Seat, bool)
-    requires { IsSeat doors.now seat }
-    ensures of { IsSeat doors.now result.0 }
-    ensures number { result.0.number ≡ seat.number }
-    ensures clock { result.0.clock ≡ seat.clock }
-    ensures pool { result.0.pool ≡ seat.pool }
+) -> (ThreadPlaces, bool)
+    requires { AreThreadPlaces doors.now own }
+    ensures of { AreThreadPlaces doors.now result.0 }
+    ensures number { result.0.number ≡ own.number }
+    ensures clock { result.0.clock ≡ own.clock }
+    ensures pool { result.0.pool ≡ own.pool }
 {
-    let mut seat = seat;
-    let (place, written) = write_on(&doors.board, rt, seat.board, more, last);
-    seat.board = place;
-    (seat, written)
+    let mut own = own;
+    let (place, written) = write_on(&doors.board, rt, own.board, more, last);
+    own.board = place;
+    (own, written)
 }
 
 // Writes on the board of this monitor. Returns true if the board took it.
@@ -48,17 +48,17 @@ fn write_on<R: Wait, M: Monitor<ReadersWriters<Board>>>(
     (out, next.is_some() && ended.is_ok())
 }
 
-/// Returns the seat, and true if the board says that no more jobs will be done. If the board can't be read, returns
-/// false.
-pub(crate) fn is_closed<R: Wait>(rt: &R, doors: &Doors, seat: Seat) -> (Seat, bool)
-    requires { IsSeat doors.now seat }
-    ensures of { IsSeat doors.now result.0 }
-    ensures number { result.0.number ≡ seat.number }
+/// Returns the thread's places, and true if the board says that no more jobs will be done. If the board can't be read,
+/// returns false.
+pub(crate) fn is_closed<R: Wait>(rt: &R, doors: &Doors, own: ThreadPlaces) -> (ThreadPlaces, bool)
+    requires { AreThreadPlaces doors.now own }
+    ensures of { AreThreadPlaces doors.now result.0 }
+    ensures number { result.0.number ≡ own.number }
 {
-    let mut seat = seat;
-    let (place, closed) = read_closed(&doors.board, rt, seat.board);
-    seat.board = place;
-    (seat, closed)
+    let mut own = own;
+    let (place, closed) = read_closed(&doors.board, rt, own.board);
+    own.board = place;
+    (own, closed)
 }
 
 // Returns true if the board of this monitor says that no more jobs will be done, false also if it can't be read.

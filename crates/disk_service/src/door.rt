@@ -14,7 +14,7 @@ use hoare_law::data::MonitorData;
 use std::alloc::Global;
 
 /// A door and its places, in order.
-pub(crate) type Made<D> = (AnyDoor<D>, Vec<Outside<D>>);
+pub(crate) type DoorWithPlaces<D> = (AnyDoor<D>, Vec<Outside<D>>);
 
 // Returns the kind of door that this kind of service uses.
 fn door_kind(kind: Kind) -> DoorKind
@@ -33,7 +33,7 @@ pub(crate) fn opened<D: MonitorData + Send + Drop>(
     kind: Kind,
     state: D,
     places: usize,
-) -> Result<Made<D>, ServiceFault>
+) -> Result<DoorWithPlaces<D>, ServiceFault>
     requires { D.rest state nobody }
     ensures kind { IfOk result (λ r. kind_behind r.0 ≡ door_kind kind) }
     ensures size { IfOk result (λ r. (id_of r.0).places ≡ places) }

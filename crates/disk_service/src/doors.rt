@@ -6,7 +6,7 @@ ghost use Rattle.disk_service.specs.Doors.{AreSized, AreThere, board_terms, cloc
 ghost use Rattle.disk_service.specs.Doors.{pool_terms, totals_terms};
 
 use crate::data::{Board, Drive, Item, Totals};
-use crate::door::{Made, closed, opened};
+use crate::door::{DoorWithPlaces, closed, opened};
 use crate::places::Places;
 use any_door::AnyDoor;
 use disk_jobs::fault::ServiceFault;
@@ -108,7 +108,14 @@ fn first_doors(
     kind: Kind,
     jobs: &Jobs,
     count: usize,
-) -> Result<(Made<Buffer<Item>>, Made<Alarm>, Made<Pool>), ServiceFault>
+) -> Result<
+    (
+        DoorWithPlaces<Buffer<Item>>,
+        DoorWithPlaces<Alarm>,
+        DoorWithPlaces<Pool>,
+    ),
+    ServiceFault,
+>
     ensures items { IfOk result (λ r. IsMade items_terms no_items kind count r.0.0 r.0.1.items) }
     ensures clock { IfOk result (λ r. IsMade clock_terms start_time kind count r.1.0 r.1.1.items) }
     ensures pool { IfOk result (λ r. IsMade pool_terms (free_buffers jobs.now.workers) kind count
@@ -122,7 +129,11 @@ fn first_doors(
 }
 
 // Opens the door of the items that wait for a worker. Returns it with its places.
-fn items_door(alloc: Global, kind: Kind, count: usize) -> Result<Made<Buffer<Item>>, ServiceFault>
+fn items_door(
+    alloc: Global,
+    kind: Kind,
+    count: usize,
+) -> Result<DoorWithPlaces<Buffer<Item>>, ServiceFault>
     ensures made { IfOk result (λ r. IsMade items_terms no_items kind count r.0 r.1.items) }
     ensures fault { IfErr result (λ f. f ≡ ServiceFault.Memory) }
 {
@@ -139,7 +150,7 @@ fn pool_door(
     kind: Kind,
     jobs: &Jobs,
     count: usize,
-) -> Result<Made<Pool>, ServiceFault>
+) -> Result<DoorWithPlaces<Pool>, ServiceFault>
     ensures made { IfOk result (λ r. IsMade pool_terms (free_buffers jobs.now.workers) kind count
         r.0 r.1.items) }
     ensures fault { IfErr result (λ f. f ≡ ServiceFault.Memory) }
@@ -159,9 +170,9 @@ fn other_doors(
     count: usize,
 ) -> Result<
     (
-        Made<Head<Drive>>,
-        Made<Single<Totals>>,
-        Made<ReadersWriters<Board>>,
+        DoorWithPlaces<Head<Drive>>,
+        DoorWithPlaces<Single<Totals>>,
+        DoorWithPlaces<ReadersWriters<Board>>,
     ),
     ServiceFault,
 >

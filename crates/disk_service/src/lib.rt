@@ -14,7 +14,7 @@ pub mod clock;
 pub mod data;
 pub mod doors;
 pub mod places;
-pub mod seat;
+pub mod thread_places;
 pub mod worker;
 
 pub use disk_jobs::{

@@ -1,12 +1,12 @@
 //! The places that no thread has.
 ghost use Rattle.std.specs.Prelude.{◌≡◌, ◌+◌, ◌<◌, ℕ, length, IfOk};
 ghost use Rattle.door_frame.specs.Places.{DoorId};
-ghost use Rattle.disk_service.specs.Doors.{AreFirst, AreThere, IsAt, IsSeat, terms};
+ghost use Rattle.disk_service.specs.Doors.{AreFirst, AreThere, AreThreadPlaces, IsAt, terms};
 ghost use Rattle.disk_service.specs.declared.doors.Doors.{Doors};
 ghost use Rattle.hoare_law.specs.Sizes.{kinds_of};
 
 use crate::data::{Board, Drive, Item, Totals};
-use crate::seat::Seat;
+use crate::thread_places::ThreadPlaces;
 use door_frame::place::Outside;
 use hoare_law::data::MonitorData;
 use plain_schedulers::buffer::Buffer;
@@ -63,12 +63,12 @@ fn put_last<D: MonitorData>(
 }
 
 impl Places {
-    /// Takes the last seat that no thread has, of which there has to be at least one. Its number is the number of seats
-    /// that are left.
-    pub fn take_seat(&mut self, number: u32) -> Seat
+    /// Takes the last place of each door. There has to be at least one. `number` is the number of these places, and
+    /// also how many places of each door are left.
+    pub fn take_places(&mut self, number: u32) -> ThreadPlaces
         requires { (d : Doors) × AreThere d (number + 1) self.old }
         ensures number { result.number ≡ number }
-        ensures seat { (d : Doors) → AreThere d (number + 1) self.old → IsSeat d result }
+        ensures own { (d : Doors) → AreThere d (number + 1) self.old → AreThreadPlaces d result }
         ensures left { (d : Doors) → AreThere d (number + 1) self.old → AreThere d number self.new }
     {
         let items = take_last(&mut self.items);
@@ -77,7 +77,7 @@ impl Places {
         let head = take_last(&mut self.head);
         let totals = take_last(&mut self.totals);
         let board = take_last(&mut self.board);
-        Seat {
+        ThreadPlaces {
             number,
             items,
             clock,
@@ -88,12 +88,12 @@ impl Places {
         }
     }
 
-    /// Puts the seat back, which has to be the next by its number. The memory for it is still there.
-    pub(crate) fn put_seat(&mut self, seat: Seat) -> Result<(), AllocError>
-        ensures { IfOk result (λ _. (d : Doors) → AreThere d seat.number self.old → IsSeat d seat
-            → AreThere d (seat.number + 1) self.new) }
+    /// Puts a thread's places back. Their number has to be the next. The memory for them is still there.
+    pub(crate) fn put_places(&mut self, own: ThreadPlaces) -> Result<(), AllocError>
+        ensures { IfOk result (λ _. (d : Doors) → AreThere d own.number self.old → AreThreadPlaces d own
+            → AreThere d (own.number + 1) self.new) }
     {
-        let Seat {
+        let ThreadPlaces {
             number: _,
             items,
             clock,
@@ -101,7 +101,7 @@ impl Places {
             head,
             totals,
             board,
-        } = seat;
+        } = own;
         let items = put_last(&mut self.items, items);
         let clock = put_last(&mut self.clock, clock);
         let pool = put_last(&mut self.pool, pool);

@@ -3,12 +3,12 @@ ghost use Rattle.std.specs.Prelude.{◌≡◌, ◌+◌, vec_len, IfOk, IfErr};
 ghost use Rattle.disk_jobs.specs.Faults.{IsOfService};
 ghost use Rattle.disk_jobs.specs.Reports.{account_of};
 ghost use Rattle.disk_jobs.specs.Services.{service};
-ghost use Rattle.disk_service.specs.Desks.{IsReady};
+ghost use Rattle.disk_service.specs.CallerStates.{IsReady};
 ghost use Rattle.disk_service.specs.Doors.{AreSized, AreThere};
 
 use crate::doors::Doors;
 use crate::gate::Gate;
-use crate::threads::{Desk, run_threads};
+use crate::threads::{CallerState, run_threads};
 use disk_jobs::done::Done;
 use disk_jobs::fault::ServiceFault;
 use disk_jobs::gathering::gather;
@@ -83,31 +83,31 @@ pub(crate) fn serve_on<R: Threads + Wait + Sync, G: Gate + Sync>(
     let Ok((rooms, results)) = room_for(alloc, jobs) else {
         return Err(ServiceFault::Memory);
     };
-    let seats = jobs.workers() as usize + 2;
-    let (doors, places) = Doors::open(alloc, kind, jobs, seats)?;
-    let desk = Desk {
+    let threads = jobs.workers() as usize + 2;
+    let (doors, places) = Doors::open(alloc, kind, jobs, threads)?;
+    let state = CallerState {
         places,
         rooms,
         results,
     };
-    serve_behind(rt, jobs, gate, doors, desk)
+    run_and_report(rt, jobs, gate, doors, state)
 }
 
 // Does the jobs on these doors, and reports them.
-fn serve_behind<R: Threads + Wait + Sync, G: Gate + Sync>(
+fn run_and_report<R: Threads + Wait + Sync, G: Gate + Sync>(
     rt: &R,
     jobs: &Jobs,
     gate: &G,
     doors: Doors,
-    desk: Desk,
+    state: CallerState,
 ) -> Result<Report, ServiceFault>
     requires size { AreSized doors (jobs.now.workers + 2) }
-    requires desk { IsReady doors jobs.now.workers desk }
+    requires state { IsReady doors jobs.now.workers state }
     ensures report { IfOk result (λ r. account_of r ≡ service jobs.now.cylinders) }
     ensures fault { IfErr result IsOfService }
 {
-    match run_threads(rt, gate, jobs, &doors, desk) {
-        Ok(desk) => report_behind(jobs, doors, desk),
+    match run_threads(rt, gate, jobs, &doors, state) {
+        Ok(state) => close_and_report(jobs, doors, state),
         Err(fault) => {
             doors.let_go();
             Err(fault)
@@ -116,17 +116,17 @@ fn serve_behind<R: Threads + Wait + Sync, G: Gate + Sync>(
 }
 
 // Closes the doors, given all of their places, and reports the jobs that were done.
-fn report_behind(jobs: &Jobs, doors: Doors, desk: Desk) -> Result<Report, ServiceFault>
+fn close_and_report(jobs: &Jobs, doors: Doors, state: CallerState) -> Result<Report, ServiceFault>
     requires size { AreSized doors (jobs.now.workers + 2) }
-    requires places { AreThere doors (jobs.now.workers + 2) desk.places }
+    requires places { AreThere doors (jobs.now.workers + 2) state.places }
     ensures report { IfOk result (λ r. account_of r ≡ service jobs.now.cylinders) }
     ensures fault { IfErr result IsOfService }
 {
-    let Desk {
+    let CallerState {
         places,
         results,
         ..
-    } = desk;
+    } = state;
     let (totals, board) = doors.close(places, jobs.workers() as usize + 2);
     let Some(totals) = totals else {
         return Err(ServiceFault::Torn);

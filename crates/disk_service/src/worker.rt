@@ -1,6 +1,6 @@
 //! What a worker does.
 ghost use Rattle.std.specs.Prelude.{◌≡◌, ◌+◌, ◌≤◌, vec_len};
-ghost use Rattle.disk_service.specs.Doors.{IsSeat};
+ghost use Rattle.disk_service.specs.Doors.{AreThreadPlaces};
 ghost use Rattle.disk_service.specs.Borrows.{BorrowsForEach};
 ghost use Rattle.disk_service.specs.EachJob.{jobs_in};
 ghost use Rattle.disk_service.specs.Sleeps.{SleepsForEach};
@@ -9,7 +9,7 @@ use crate::board::write;
 use crate::data::{Drive, Item, Totals};
 use crate::doors::Doors;
 use crate::gate::Gate;
-use crate::seat::Seat;
+use crate::thread_places::ThreadPlaces;
 use disk_jobs::done::Done;
 use disk_jobs::jobs::Jobs;
 use hoare_law::monitor::Monitor;
@@ -21,7 +21,7 @@ use timed_schedulers::alarm::Alarm;
 use timed_schedulers::pool::Pool;
 
 /// Does jobs until it gets a stop item, and adds the results to `room`, in which there is memory for them. Returns the
-/// seat and the results.
+/// worker's places and the results.
 ///
 /// If a monitor refuses a call, the worker skips what depends on it, and the job isn't among the results. For each
 /// result the worker has slept for a tick, and has taken a buffer from the pool and given it back.
@@ -30,26 +30,26 @@ pub fn work<R: Wait, G: Gate>(
     gate: &G,
     jobs: &Jobs,
     doors: &Doors,
-    seat: Seat,
+    own: ThreadPlaces,
     room: Vec<Done>,
-) -> (Seat, Vec<Done>)
-    requires { IsSeat doors.now seat }
-    ensures of { IsSeat doors.now result.0 }
-    ensures number { result.0.number ≡ seat.number }
-    ensures sleeps { SleepsForEach seat.number seat.clock.front result.0.clock.front
+) -> (ThreadPlaces, Vec<Done>)
+    requires { AreThreadPlaces doors.now own }
+    ensures of { AreThreadPlaces doors.now result.0 }
+    ensures number { result.0.number ≡ own.number }
+    ensures sleeps { SleepsForEach own.number own.clock.front result.0.clock.front
         (vec_len room) (vec_len result.1) }
-    ensures borrows { BorrowsForEach seat.number seat.number seat.pool.front result.0.pool.front
+    ensures borrows { BorrowsForEach own.number own.number own.pool.front result.0.pool.front
         (vec_len room) (vec_len result.1) }
 {
-    let mut seat = seat;
+    let mut own = own;
     let mut kept = room;
     for _ in rt.forever() {
-        let (place, job) = next_job(&doors.items, rt, seat.items);
-        seat.items = place;
+        let (place, job) = next_job(&doors.items, rt, own.items);
+        own.items = place;
         let Some(job) = job else {
-            return (seat, kept);
+            return (own, kept);
         };
-        seat = do_job(rt, gate, jobs, doors, seat, job, &mut kept);
+        own = do_job(rt, gate, jobs, doors, own, job, &mut kept);
     }
     unreachable!()
 }
@@ -73,22 +73,22 @@ fn do_job<R: Wait, G: Gate>(
     gate: &G,
     jobs: &Jobs,
     doors: &Doors,
-    seat: Seat,
+    own: ThreadPlaces,
     job: u32,
     kept: &mut Vec<Done>,
-) -> Seat
-    requires { IsSeat doors.now seat }
-    ensures of { IsSeat doors.now result }
-    ensures number { result.number ≡ seat.number }
-    ensures sleeps { SleepsForEach seat.number seat.clock.front result.clock.front
+) -> ThreadPlaces
+    requires { AreThreadPlaces doors.now own }
+    ensures of { AreThreadPlaces doors.now result }
+    ensures number { result.number ≡ own.number }
+    ensures sleeps { SleepsForEach own.number own.clock.front result.clock.front
         (vec_len kept.old) (vec_len kept.new) }
-    ensures borrows { BorrowsForEach seat.number seat.number seat.pool.front result.pool.front
+    ensures borrows { BorrowsForEach own.number own.number own.pool.front result.pool.front
         (vec_len kept.old) (vec_len kept.new) }
 {
     gate.begin(job as usize);
-    let seat = do_listed_job(rt, jobs, doors, seat, job, kept);
+    let own = do_listed_job(rt, jobs, doors, own, job, kept);
     gate.end(job as usize);
-    seat
+    own
 }
 
 // Does a job, if there is one with this number, and keeps its result.
@@ -96,24 +96,24 @@ fn do_listed_job<R: Wait>(
     rt: &R,
     jobs: &Jobs,
     doors: &Doors,
-    seat: Seat,
+    own: ThreadPlaces,
     job: u32,
     kept: &mut Vec<Done>,
-) -> Seat
-    requires { IsSeat doors.now seat }
-    ensures of { IsSeat doors.now result }
-    ensures number { result.number ≡ seat.number }
-    ensures sleeps { SleepsForEach seat.number seat.clock.front result.clock.front
+) -> ThreadPlaces
+    requires { AreThreadPlaces doors.now own }
+    ensures of { AreThreadPlaces doors.now result }
+    ensures number { result.number ≡ own.number }
+    ensures sleeps { SleepsForEach own.number own.clock.front result.clock.front
         (vec_len kept.old) (vec_len kept.new) }
-    ensures borrows { BorrowsForEach seat.number seat.number seat.pool.front result.pool.front
+    ensures borrows { BorrowsForEach own.number own.number own.pool.front result.pool.front
         (vec_len kept.old) (vec_len kept.new) }
 {
     let Some(cylinder) = jobs.cylinders().get(job as usize) else {
-        return seat;
+        return own;
     };
-    let (seat, done) = serve_job(rt, doors, seat, job, *cylinder);
+    let (own, done) = serve_job(rt, doors, own, job, *cylinder);
     keep(kept, done);
-    seat
+    own
 }
 
 // Keeps the result, if there is memory for it.
@@ -130,56 +130,56 @@ fn keep(kept: &mut Vec<Done>, done: Option<Done>)
 fn serve_job<R: Wait>(
     rt: &R,
     doors: &Doors,
-    seat: Seat,
+    own: ThreadPlaces,
     job: u32,
     cylinder: u16,
-) -> (Seat, Option<Done>)
-    requires { IsSeat doors.now seat }
-    ensures of { IsSeat doors.now result.0 }
-    ensures number { result.0.number ≡ seat.number }
-    ensures sleeps { SleepsForEach seat.number seat.clock.front result.0.clock.front
+) -> (ThreadPlaces, Option<Done>)
+    requires { AreThreadPlaces doors.now own }
+    ensures of { AreThreadPlaces doors.now result.0 }
+    ensures number { result.0.number ≡ own.number }
+    ensures sleeps { SleepsForEach own.number own.clock.front result.0.clock.front
         0 (jobs_in result.1) }
-    ensures borrows { BorrowsForEach seat.number seat.number seat.pool.front result.0.pool.front
+    ensures borrows { BorrowsForEach own.number own.number own.pool.front result.0.pool.front
         0 (jobs_in result.1) }
 {
-    let (seat, read) = read_into_buffer(rt, doors, seat, job, cylinder);
+    let (own, read) = read_into_buffer(rt, doors, own, job, cylinder);
     let Some(done) = read else {
-        return (seat, None);
+        return (own, None);
     };
-    let (seat, counted) = add_to_totals(rt, doors, seat, done);
+    let (own, counted) = add_to_totals(rt, doors, own, done);
     if !counted {
-        return (seat, None);
+        return (own, None);
     }
-    let (seat, noted) = write(rt, doors, seat, 1, false);
+    let (own, noted) = write(rt, doors, own, 1, false);
     if !noted {
-        return (seat, None);
+        return (own, None);
     }
-    (seat, Some(done))
+    (own, Some(done))
 }
 
 // Reads the block of a job into a buffer of the pool, with the drive.
 fn read_into_buffer<R: Wait>(
     rt: &R,
     doors: &Doors,
-    seat: Seat,
+    own: ThreadPlaces,
     job: u32,
     cylinder: u16,
-) -> (Seat, Option<Done>)
-    requires { IsSeat doors.now seat }
-    ensures of { IsSeat doors.now result.0 }
-    ensures number { result.0.number ≡ seat.number }
-    ensures sleeps { SleepsForEach seat.number seat.clock.front result.0.clock.front
+) -> (ThreadPlaces, Option<Done>)
+    requires { AreThreadPlaces doors.now own }
+    ensures of { AreThreadPlaces doors.now result.0 }
+    ensures number { result.0.number ≡ own.number }
+    ensures sleeps { SleepsForEach own.number own.clock.front result.0.clock.front
         0 (jobs_in result.1) }
-    ensures borrows { BorrowsForEach seat.number seat.number seat.pool.front result.0.pool.front
+    ensures borrows { BorrowsForEach own.number own.number own.pool.front result.0.pool.front
         0 (jobs_in result.1) }
 {
-    let mut seat = seat;
-    let places = (seat.pool, seat.head, seat.clock);
+    let mut own = own;
+    let places = (own.pool, own.head, own.clock);
     let block = (job, cylinder);
     let (pool, head, clock) = (&doors.pool, &doors.head, &doors.clock);
-    let (places, read) = use_buffer(pool, head, clock, rt, places, seat.number, block);
-    (seat.pool, seat.head, seat.clock) = places;
-    (seat, read)
+    let (places, read) = use_buffer(pool, head, clock, rt, places, own.number, block);
+    (own.pool, own.head, own.clock) = places;
+    (own, read)
 }
 
 // Reads the block of a job into a buffer of this pool, with the drive of this head, and gives back the buffer.
@@ -255,17 +255,22 @@ fn use_drive<R: Wait, H: Monitor<Head<Drive>>, C: Monitor<Alarm>>(
 }
 
 // Adds a job to the totals. Returns true if they took it.
-fn add_to_totals<R: Wait>(rt: &R, doors: &Doors, seat: Seat, done: Done) -> (Seat, bool)
-    requires { IsSeat doors.now seat }
-    ensures of { IsSeat doors.now result.0 }
-    ensures number { result.0.number ≡ seat.number }
-    ensures clock { result.0.clock ≡ seat.clock }
-    ensures pool { result.0.pool ≡ seat.pool }
+fn add_to_totals<R: Wait>(
+    rt: &R,
+    doors: &Doors,
+    own: ThreadPlaces,
+    done: Done,
+) -> (ThreadPlaces, bool)
+    requires { AreThreadPlaces doors.now own }
+    ensures of { AreThreadPlaces doors.now result.0 }
+    ensures number { result.0.number ≡ own.number }
+    ensures clock { result.0.clock ≡ own.clock }
+    ensures pool { result.0.pool ≡ own.pool }
 {
-    let mut seat = seat;
-    let (place, added) = add_to(&doors.totals, rt, seat.totals, done);
-    seat.totals = place;
-    (seat, added)
+    let mut own = own;
+    let (place, added) = add_to(&doors.totals, rt, own.totals, done);
+    own.totals = place;
+    (own, added)
 }
 
 // Adds a job to the totals of this monitor. Returns true if they took it.

@@ -1,7 +1,7 @@
 //! Tests the order of a worker's acts: at each call of its gate another thread reads the data of the doors. Reviewed
 //! only, since the doors don't show it: that the worker has kept its result when it calls `end`.
 ghost use Rattle.std.specs.Prelude.{◌≡◌};
-ghost use Rattle.disk_service.specs.Doors.{AreThere, IsSeat};
+ghost use Rattle.disk_service.specs.Doors.{AreThere, AreThreadPlaces};
 
 use crate::tests::compared::expect_same;
 use disk_service::caller::{close_board, hand_out};
@@ -9,7 +9,7 @@ use disk_service::clock::tick_on;
 use disk_service::data::{Board, Drive, Totals};
 use disk_service::doors::Doors;
 use disk_service::places::Places;
-use disk_service::seat::Seat;
+use disk_service::thread_places::ThreadPlaces;
 use disk_service::worker::work;
 use disk_service::{Done, Gate, Jobs, Kind};
 use hoare_law::monitor::Monitor;
@@ -37,7 +37,7 @@ const CALLS: usize = 6;
 // What the doors have: how many jobs the totals count, how many the board counts as done, and if both the buffer and
 // the drive are in.
 #[derive(Clone, Copy, Debug, PartialEq, Eq)]
-struct Found {
+struct DoorData {
     counted: u64,
     noted: u32,
     are_in: bool,
@@ -69,38 +69,38 @@ fn board_of<R: Wait, M: Monitor<ReadersWriters<Board>>>(
     (out, board)
 }
 
-// Reads the data of these doors, and returns them with the seat. (If the buffer is in it can't be given back, and if
-// the drive is in none can be put in.)
-fn found_behind<R: Wait>(rt: &R, doors: &Doors, seat: Seat) -> (Seat, Found)
-    requires { IsSeat doors.now seat }
-    ensures { IsSeat doors.now result.0 }
+// Reads the data of these doors. Returns the thread's places and the data. (If the buffer is in it can't be given back,
+// and if the drive is in none can be put in.)
+fn read_doors<R: Wait>(rt: &R, doors: &Doors, own: ThreadPlaces) -> (ThreadPlaces, DoorData)
+    requires { AreThreadPlaces doors.now own }
+    ensures { AreThreadPlaces doors.now result.0 }
 {
-    let mut seat = seat;
-    let (place, totals) = totals_of(&doors.totals, rt, seat.totals);
-    seat.totals = place;
-    let (place, board) = board_of(&doors.board, rt, seat.board);
-    seat.board = place;
-    let (place, given) = Pool::give(&doors.pool, rt, seat.pool, 0, 0);
-    seat.pool = place;
-    let (place, put) = Head::release(&doors.head, rt, seat.head, Drive);
-    seat.head = place;
-    let found = Found {
+    let mut own = own;
+    let (place, totals) = totals_of(&doors.totals, rt, own.totals);
+    own.totals = place;
+    let (place, board) = board_of(&doors.board, rt, own.board);
+    own.board = place;
+    let (place, given) = Pool::give(&doors.pool, rt, own.pool, 0, 0);
+    own.pool = place;
+    let (place, put) = Head::release(&doors.head, rt, own.head, Drive);
+    own.head = place;
+    let found = DoorData {
         counted: totals.jobs,
         noted: board.done,
         are_in: given == Err(GiveRefused::NotHeld) && put.is_err(),
     };
-    (seat, found)
+    (own, found)
 }
 
 // A gate that waits at each of its calls until the watcher has read the data of the doors.
 #[derive(Drop)]
-struct Watched<'a, R: Wait> {
+struct WatchedGate<'a, R: Wait> {
     rt: &'a R,
     call: Mutex<Call>,
     meeting: Barrier,
 }
 
-impl<R: Wait> Watched<'_, R> {
+impl<R: Wait> WatchedGate<'_, R> {
     // Records the call, and waits until the watcher has read.
     fn await_look(&self, call: Call) {
         *self.call.lock(self.rt) = call;
@@ -109,7 +109,7 @@ impl<R: Wait> Watched<'_, R> {
     }
 }
 
-impl<R: Wait> Gate for Watched<'_, R> {
+impl<R: Wait> Gate for WatchedGate<'_, R> {
     fn begin(&self, job: usize) {
         self.await_look(Call::Begin(job));
     }
@@ -122,19 +122,19 @@ impl<R: Wait> Gate for Watched<'_, R> {
 fn found_at_calls<R: Wait>(
     rt: &R,
     alloc: Global,
-    gate: &Watched<'_, R>,
+    gate: &WatchedGate<'_, R>,
     doors: &Doors,
-    seat: Seat,
-) -> Vec<(Call, Found)>
-    requires { IsSeat doors.now seat }
+    own: ThreadPlaces,
+) -> Vec<(Call, DoorData)>
+    requires { AreThreadPlaces doors.now own }
 {
-    let mut seat = seat;
+    let mut own = own;
     let mut calls = Vec::new(alloc);
     for _ in 0..CALLS {
         gate.meeting.wait(rt);
         let call = *gate.call.lock(rt);
-        let (back, found) = found_behind(rt, doors, seat);
-        seat = back;
+        let (back, found) = read_doors(rt, doors, own);
+        own = back;
         let _noted = calls.push((call, found));
         gate.meeting.wait(rt);
     }
@@ -148,13 +148,13 @@ fn done_by<R: Wait, G: Gate>(
     gate: &G,
     jobs: &Jobs,
     doors: &Doors,
-    seat: Seat,
+    own: ThreadPlaces,
 ) -> Vec<Done>
-    requires { IsSeat doors.now seat }
+    requires { AreThreadPlaces doors.now own }
 {
-    let seat = hand_out(rt, doors, jobs, seat);
-    let (seat, kept) = work(rt, gate, jobs, doors, seat, Vec::new(alloc));
-    close_board(rt, doors, seat);
+    let own = hand_out(rt, doors, jobs, own);
+    let (own, kept) = work(rt, gate, jobs, doors, own, Vec::new(alloc));
+    close_board(rt, doors, own);
     kept
 }
 
@@ -164,13 +164,13 @@ fn work_watched<R: Threads + Wait + Sync>(
     alloc: Global,
     jobs: &Jobs,
     doors: &Doors,
-    watcher: Seat,
-    worker: Seat,
-) -> (Vec<(Call, Found)>, Vec<Done>)
-    requires watcher { IsSeat doors.now watcher }
-    requires worker { IsSeat doors.now worker }
+    watcher: ThreadPlaces,
+    worker: ThreadPlaces,
+) -> (Vec<(Call, DoorData)>, Vec<Done>)
+    requires watcher { AreThreadPlaces doors.now watcher }
+    requires worker { AreThreadPlaces doors.now worker }
 {
-    let gate = Watched {
+    let gate = WatchedGate {
         rt,
         call: Mutex::new(Call::Begin(0)),
         meeting: Barrier::new(2),
@@ -189,27 +189,27 @@ fn work_in_time<R: Threads + Wait + Sync>(
     jobs: &Jobs,
     doors: &Doors,
     places: Places,
-) -> (Vec<(Call, Found)>, Vec<Done>)
+) -> (Vec<(Call, DoorData)>, Vec<Done>)
     requires { AreThere doors.now 3 places }
 {
     let mut places = places;
-    let watcher = places.take_seat(2);
-    let clock = places.take_seat(1);
-    let worker = places.take_seat(0);
+    let watcher = places.take_places(2);
+    let clock = places.take_places(1);
+    let worker = places.take_places(0);
     let (_clock, seen) = thread::join(
         rt,
         || tick_on(rt, doors, clock),
-        || -> (Vec<(Call, Found)>, Vec<Done>)
-            requires watcher { IsSeat doors.now watcher }
-            requires worker { IsSeat doors.now worker }
+        || -> (Vec<(Call, DoorData)>, Vec<Done>)
+            requires watcher { AreThreadPlaces doors.now watcher }
+            requires worker { AreThreadPlaces doors.now worker }
         { work_watched(rt, alloc, jobs, doors, watcher, worker) },
     );
     seen
 }
 
 // Returns what is to be found if `done` jobs are done, and neither the buffer nor the drive is out.
-fn after(done: u32) -> Found {
-    Found {
+fn after(done: u32) -> DoorData {
+    DoorData {
         counted: u64::from(done),
         noted: done,
         are_in: true,
@@ -218,8 +218,8 @@ fn after(done: u32) -> Found {
 
 // Fails the test unless at each call of the gate exactly the jobs before it are done, at `end` also its own job, with
 // the buffer and the drive in; and the worker kept the jobs in this order.
-fn assert_in_order<R: Abort>(rt: &R, calls: &[(Call, Found)], kept: &[Done]) {
-    let wanted: [(Call, Found); CALLS] = [
+fn assert_in_order<R: Abort>(rt: &R, calls: &[(Call, DoorData)], kept: &[Done]) {
+    let wanted: [(Call, DoorData); CALLS] = [
         (Call::Begin(0), after(0)),
         (Call::End(0), after(1)),
         (Call::Begin(1), after(1)),
@@ -239,7 +239,7 @@ fn watched_on<R: Threads + Wait + Sync>(
     alloc: Global,
     kind: Kind,
     jobs: &Jobs,
-) -> Option<(Vec<(Call, Found)>, Vec<Done>)> {
+) -> Option<(Vec<(Call, DoorData)>, Vec<Done>)> {
     match Doors::open(alloc, kind, jobs, 3) {
         Ok((doors, places)) => Some(work_in_time(rt, alloc, jobs, &doors, places)),
         Err(_) => None,

@@ -11,5 +11,5 @@ loop-job-preserved g c =
     let inv = c.loop-job.invariant in (
       search rules,
       search rules,
-      next-job _ _ _ _ _ inv.2 (rw inv.1 at c.append-seat.ensures.appended),
+      next-job _ _ _ _ _ inv.2 (rw inv.1 at c.append-own.ensures.appended),
     )

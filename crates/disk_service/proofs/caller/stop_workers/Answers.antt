@@ -11,5 +11,5 @@ loop-preserved g c =
     let inv = c.loop.invariant in (
       search rules,
       search rules,
-      next-stop _ c.loop.counter _ _ _ inv.2 (rw inv.1 at c.append-seat.ensures.appended),
+      next-stop _ c.loop.counter _ _ _ inv.2 (rw inv.1 at c.append-own.ensures.appended),
     )

@@ -1,7 +1,7 @@
 use Rattle.std.specs.Prelude.{◌≡◌}
-use Rattle.disk_service.specs.Doors.{IsSeat}
+use Rattle.disk_service.specs.Doors.{AreThreadPlaces}
 use Rattle.disk_service.proofs.clock.tick_on.Given as goal
 
--- the seat belongs to these doors and keeps its number
+-- the clock's places belong to these doors and keep their number
 abbrev pub invariant-loop : goal.invariant-loop
-invariant-loop g l = IsSeat l.doors l.seat × (l.seat.number ≡ l.fn.seat.number)
+invariant-loop g l = AreThreadPlaces l.doors l.own × (l.own.number ≡ l.fn.own.number)

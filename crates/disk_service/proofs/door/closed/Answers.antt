@@ -1,4 +1,4 @@
-use Rattle.disk_service.proofs.Seats.{has-first}
+use Rattle.disk_service.proofs.FirstPlaces.{has-first}
 use Rattle.disk_service.proofs.door.closed.Goals as goal
 
 pub close-requires-clause-places : goal.close-requires-clause-places

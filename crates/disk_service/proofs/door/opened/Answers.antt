@@ -1,6 +1,6 @@
 use Rattle.any_door.specs.Doors.{id_of}
 use Rattle.disk_service.proofs.Making.{all-new}
-use Rattle.disk_service.proofs.Seats.{all-first}
+use Rattle.disk_service.proofs.FirstPlaces.{all-first}
 use Rattle.disk_service.proofs.door.opened.Goals as goal
 
 pub returns-in-Ok-clause-places : goal.returns-in-Ok-clause-places

@@ -12,8 +12,8 @@ returns-in_default-clause-borrows g c = for-none _ _ _ _ not_once (omega arith)
 
 pub returns-clause-sleeps : goal.returns-clause-sleeps
 returns-clause-sleeps g c =
-    for-fewer _ _ _ _ 0 _ _ _ c.serve_job-seat.ensures.sleeps refl (omega (arith, c.keep.ensures))
+    for-fewer _ _ _ _ 0 _ _ _ c.serve_job-own.ensures.sleeps refl (omega (arith, c.keep.ensures))
 
 pub returns-clause-borrows : goal.returns-clause-borrows
 returns-clause-borrows g c =
-    for-fewer _ _ _ _ 0 _ _ _ c.serve_job-seat.ensures.borrows refl (omega (arith, c.keep.ensures))
+    for-fewer _ _ _ _ 0 _ _ _ c.serve_job-own.ensures.borrows refl (omega (arith, c.keep.ensures))

@@ -15,6 +15,6 @@ loop-preserved g c =
     let inv = c.loop.invariant in (
       search rules,
       search rules,
-      for-both _ (Sleeps-joined _) _ _ _ _ _ _ _ inv.2 (rw inv.1 at c.do_job-seat.ensures.sleeps) _ (omega arith),
-      for-both _ (Borrows-joined _ _) _ _ _ _ _ _ _ inv.3 (rw inv.1 at c.do_job-seat.ensures.borrows) _ (omega arith),
+      for-both _ (Sleeps-joined _) _ _ _ _ _ _ _ inv.2 (rw inv.1 at c.do_job-own.ensures.sleeps) _ (omega arith),
+      for-both _ (Borrows-joined _ _) _ _ _ _ _ _ _ inv.3 (rw inv.1 at c.do_job-own.ensures.borrows) _ (omega arith),
     )

@@ -1,6 +1,6 @@
-use Rattle.disk_service.specs.Doors.{IsSeat}
+use Rattle.disk_service.specs.Doors.{AreThreadPlaces}
 use Rattle.service_trials.proofs.tests.acts.found_at_calls.Given as goal
 
--- the seat remains a seat of these doors
+-- the watcher's places remain places of these doors
 abbrev pub invariant-loop : goal.invariant-loop
-invariant-loop g l = IsSeat l.doors l.seat
+invariant-loop g l = AreThreadPlaces l.doors l.own

@@ -2,9 +2,9 @@ use Rattle.std.proofs.Common.{◌+◌}
 use Rattle.any_door.specs.Doors.{id_of}
 use Rattle.disk_service.specs.declared.doors.Doors.{Doors}
 use Rattle.disk_service.specs.declared.places.Places.{Places}
-use Rattle.disk_service.specs.Doors.{AreThere, IsSeat}
-use Rattle.disk_service.proofs.Seats.{both-ok, if-ok}
-use Rattle.disk_service.proofs.places.Places.put_seat.Goals as goal
+use Rattle.disk_service.specs.Doors.{AreThere, AreThreadPlaces}
+use Rattle.disk_service.proofs.FirstPlaces.{both-ok, if-ok}
+use Rattle.disk_service.proofs.places.Places.put_places.Goals as goal
 
 pub returns : goal.returns
 returns c =
@@ -16,18 +16,18 @@ returns c =
       totals = c.put_last-totals.new.places;
       board = c.put_last-board.new.places;
     } in
-    if-ok ((d : Doors) → AreThere d c.args.seat.number c.args.self.now → IsSeat d c.args.seat
-    → AreThere d (c.args.seat.number + 1) new) c.and-5.result (λ v is. λ d there seat.
+    if-ok ((d : Doors) → AreThere d c.args.own.number c.args.self.now → AreThreadPlaces d c.args.own
+    → AreThere d (c.args.own.number + 1) new) c.and-5.result (λ v is. λ d there own.
     let six = both-ok c.and-4.result c.put_last-board.result c.and-5.result v c.and-5.ensures is in
     let five = both-ok c.and-3.result c.put_last-totals.result c.and-4.result six.0.0 c.and-4.ensures six.0.1 in
     let four = both-ok c.and-2.result c.put_last-head.result c.and-3.result five.0.0 c.and-3.ensures five.0.1 in
     let three = both-ok c.and.result c.put_last-pool.result c.and-2.result four.0.0 c.and-2.ensures four.0.1 in
     let two = both-ok c.put_last-items.result c.put_last-clock.result c.and.result three.0.0 c.and.ensures three.0.1 in
     record {
-      items = (rw two.0.1 at c.put_last-items.ensures) (id_of d.items) c.args.seat.number there.items seat.items;
-      clock = (rw two.1 at c.put_last-clock.ensures) (id_of d.clock) c.args.seat.number there.clock seat.clock;
-      pool = (rw three.1 at c.put_last-pool.ensures) (id_of d.pool) c.args.seat.number there.pool seat.pool;
-      head = (rw four.1 at c.put_last-head.ensures) (id_of d.head) c.args.seat.number there.head seat.head;
-      totals = (rw five.1 at c.put_last-totals.ensures) (id_of d.totals) c.args.seat.number there.totals seat.totals;
-      board = (rw six.1 at c.put_last-board.ensures) (id_of d.board) c.args.seat.number there.board seat.board;
+      items = (rw two.0.1 at c.put_last-items.ensures) (id_of d.items) c.args.own.number there.items own.items;
+      clock = (rw two.1 at c.put_last-clock.ensures) (id_of d.clock) c.args.own.number there.clock own.clock;
+      pool = (rw three.1 at c.put_last-pool.ensures) (id_of d.pool) c.args.own.number there.pool own.pool;
+      head = (rw four.1 at c.put_last-head.ensures) (id_of d.head) c.args.own.number there.head own.head;
+      totals = (rw five.1 at c.put_last-totals.ensures) (id_of d.totals) c.args.own.number there.totals own.totals;
+      board = (rw six.1 at c.put_last-board.ensures) (id_of d.board) c.args.own.number there.board own.board;
     })

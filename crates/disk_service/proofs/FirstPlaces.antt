@@ -7,9 +7,9 @@ use Rattle.door_frame.specs.Places.{DoorId, PlaceOut, IsOut, places_from, HasPla
 use Rattle.door_frame.proofs.PlacesInOrder.{length-places, nth-places, has_nth}
 use Rattle.disk_service.specs.declared.doors.Doors.{Doors}
 use Rattle.disk_service.specs.declared.places.Places.{Places}
-use Rattle.disk_service.specs.declared.threads.Desk.{Desk}
+use Rattle.disk_service.specs.declared.threads.CallerState.{CallerState}
 use Rattle.disk_service.specs.Doors.{Terms, AreFirst, AreThere}
-use Rattle.disk_service.specs.Desks.{IsStaffed}
+use Rattle.disk_service.specs.CallerStates.{HasForWorkers}
 
 module _ {D : Type 0} where
   -- all places of a door that was made
@@ -35,8 +35,8 @@ module _ {D : Type 0} where
 pub there-at : {d : Doors} {p : Places} (n m : ℕ) → n ≡ m → AreThere d n p → AreThere d m p
 there-at n m e there = rw (sym e) there
 
-pub staffed-at : {d : Doors} {k : Desk} (n m : ℕ) → n ≡ m → IsStaffed d n k → IsStaffed d m k
-staffed-at n m e staffed = rw (sym e) staffed
+pub for_workers-at : {d : Doors} {s : CallerState} (n m : ℕ) → n ≡ m → HasForWorkers d n s → HasForWorkers d m s
+for_workers-at n m e has = rw (sym e) has
 
 -- if a result joined of two is `Ok`, both are
 pub both-ok : {T U E : Type 0} (x : Result T E) (y : Result U E) (r : Result U E) (v : U) → r ≡ result_and x y

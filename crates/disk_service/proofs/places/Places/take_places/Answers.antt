@@ -1,7 +1,7 @@
-use Rattle.disk_service.proofs.places.Places.take_seat.Goals as goal
+use Rattle.disk_service.proofs.places.Places.take_places.Goals as goal
 
-pub returns-clause-seat : goal.returns-clause-seat
-returns-clause-seat c = λ d there. record {
+pub returns-clause-own : goal.returns-clause-own
+returns-clause-own c = λ d there. record {
   items = (c.take_last-items.ensures _ _ there.items).0;
   clock = (c.take_last-clock.ensures _ _ there.clock).0;
   pool = (c.take_last-pool.ensures _ _ there.pool).0;

@@ -1,6 +1,6 @@
-//! What a thread of the service has of the doors.
+//! The places of one thread of the service.
 ghost use Rattle.std.specs.Prelude.{◌≡◌};
-ghost use Rattle.disk_service.specs.Doors.{IsSeat};
+ghost use Rattle.disk_service.specs.Doors.{AreThreadPlaces};
 ghost use Rattle.disk_service.specs.declared.doors.Doors.{Doors};
 
 use crate::data::{Board, Drive, Item, Totals};
@@ -15,11 +15,11 @@ use sweep_schedulers::readers_writers::ReadersWriters;
 use timed_schedulers::alarm::Alarm;
 use timed_schedulers::pool::Pool;
 
-/// A place at each door, all with one number. Each thread has a seat. The stream for which the thread takes buffers has
-/// that number too.
+/// A thread's places: one at each door, all with one number. The stream for which the thread takes buffers has that
+/// number too.
 #[derive(Drop)]
-pub struct Seat {
-    /// The number of each of its places. The workers have the numbers from 0; then come the clock and the caller.
+pub struct ThreadPlaces {
+    /// The number of each place. The workers have the numbers from 0; then come the clock and the caller.
     pub number: u32,
     /// The place at the door of the items that wait for a worker.
     pub items: Outside<Buffer<Item>>,
@@ -35,24 +35,24 @@ pub struct Seat {
     pub board: Outside<ReadersWriters<Board>>,
 }
 
-impl Seat {
-    /// Drops the seat, with its places.
+impl ThreadPlaces {
+    /// Drops the places.
     pub(crate) fn let_go(self) {}
 }
 
-/// The promise of a thread to give back its seat, the one with this number at these doors.
+/// The promise of a thread to return its places, which are those with this number at these doors.
 #[derive(Clone, Copy)]
-pub(crate) struct SeatBack<'a> {
-    /// The doors of the seat.
+pub(crate) struct ReturnsPlaces<'a> {
+    /// The doors of the places.
     pub doors: &'a Doors,
-    /// The number of the seat.
+    /// The number of the places.
     pub number: u32,
 }
 
-impl<'a> Promise<Seat> for SeatBack<'a> {
-    ghost kept_by = { λ p s. IsSeat p.doors.now s × (s.number ≡ p.number) };
+impl<'a> Promise<ThreadPlaces> for ReturnsPlaces<'a> {
+    ghost kept_by = { λ p own. AreThreadPlaces p.doors.now own × (own.number ≡ p.number) };
 }
 
-impl<'a> Promise<(Seat, Vec<Done>)> for SeatBack<'a> {
-    ghost kept_by = { λ p r. IsSeat p.doors.now r.0 × (r.0.number ≡ p.number) };
+impl<'a> Promise<(ThreadPlaces, Vec<Done>)> for ReturnsPlaces<'a> {
+    ghost kept_by = { λ p r. AreThreadPlaces p.doors.now r.0 × (r.0.number ≡ p.number) };
 }

@@ -11,11 +11,11 @@ use std::process::ExitCode;
 use std::test::Fail;
 
 /// Keeps what is written to standard error.
-struct Kept {
+struct CapturedStderr {
     bytes: RefCell<Vec<u8>>,
 }
 
-impl Eprint for Kept {
+impl Eprint for CapturedStderr {
     fn eprint<D: Display + Drop>(&self, value: D) -> io::Result<()> {
         let Ok(mut bytes) = self.bytes.try_borrow_mut() else {
             return Err(io::Error::from(io::ErrorKind::ResourceBusy));
@@ -49,11 +49,11 @@ fn ends_with_one_line_and_a_status(rt: HostRuntime) {
             3,
         ),
     ] {
-        let kept = Kept {
+        let kept = CapturedStderr {
             bytes: RefCell::new(Vec::new(rt.alloc())),
         };
         let code = report(&kept, end);
-        let Kept { bytes } = kept;
+        let CapturedStderr { bytes } = kept;
         let bytes = bytes.into_inner();
         assert!(rt; code == ExitCode::from(status), "{line}");
         assert!(rt; bytes.as_slice() == line.as_bytes(), "{line}");

@@ -55,7 +55,7 @@ struct AtOnce {
 
 // What was seen of a whole service.
 #[derive(Clone, Copy, Debug, PartialEq, Eq)]
-struct Seen {
+struct ServiceCounts {
     // How many jobs began exactly once, and how many ended exactly once after that.
     begun_once: usize,
     ended_once: usize,
@@ -104,8 +104,8 @@ impl AtOnce {
         })
     }
 
-    fn seen(&self) -> Seen {
-        Seen {
+    fn seen(&self) -> ServiceCounts {
+        ServiceCounts {
             begun_once: ones(self.begins.as_slice()),
             ended_once: ones(self.ends.as_slice()),
             before_an_end: self.before_an_end.load(Ordering::SeqCst),
@@ -175,7 +175,7 @@ fn assert_at_once<R: Abort>(rt: &R, answer: Result<Report, ServiceFault>, gate: 
     };
     let (workers, jobs) = (gate.size.workers as usize, gate.size.jobs);
     expect_same(rt, report.lines.len(), jobs);
-    let wanted = Seen {
+    let wanted = ServiceCounts {
         begun_once: jobs,
         ended_once: jobs,
         before_an_end: workers,
@@ -232,7 +232,7 @@ fn one_at_a_time_is_seen(rt: HostRuntime) -> Result<(), Fail> {
         gate.begin(job);
         gate.end(job);
     }
-    let wanted = Seen {
+    let wanted = ServiceCounts {
         begun_once: FOUR.jobs,
         ended_once: FOUR.jobs,
         before_an_end: 1,

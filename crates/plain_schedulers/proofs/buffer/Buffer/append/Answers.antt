@@ -29,10 +29,6 @@ came g c = elim c.if-is_full.branch [
 pub push-requires : goal.push-requires
 push-requires g c = rw c.state_mut.ensures.value (came g c).ready.room
 
-pub signal_leave-out-requires-clause-of : goal.signal_leave-out-requires-clause-of
-signal_leave-out-requires-clause-of g c =
-    g.met.M.Monitor.keeps_of _ _ _ (came g (goal.at.signal_leave-out-requires-clause-of g c).After-state_mut).of
-
 pub signal_leave-out-requires-clause-ready : goal.signal_leave-out-requires-clause-ready
 signal_leave-out-requires-clause-ready g c =
     ReadyNonempty-added _ (came g (goal.at.signal_leave-out-requires-clause-ready g c).After-state_mut).ready
@@ -44,11 +40,6 @@ signal_leave-out-requires-clause-rest g c =
     BufferRests-added _ (came g (goal.at.signal_leave-out-requires-clause-rest g c).After-state_mut).ready
     (g.met.M.Monitor.takes_data _ _ ∙ (rw c.state_mut.ensures.value at c.push.ensures))
     (g.met.M.Monitor.keeps_lists _ _)
-
-pub returns-clause-place : goal.returns-clause-place
-returns-clause-place g c =
-    c.signal_leave-out.ensures.place
-    ∙ (g.met.M.Monitor.keeps_place _ _ ∙ (came g (goal.at.returns-clause-place g c).After-state_mut).place)
 
 pub returns-clause-trace : goal.returns-clause-trace
 returns-clause-trace g c =

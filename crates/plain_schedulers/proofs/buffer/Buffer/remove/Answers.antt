@@ -29,10 +29,6 @@ came g c = elim c.if-is_empty.branch [
 pub pop-item-requires : goal.pop-item-requires
 pop-item-requires g c = rw c.state_mut.ensures.value (came g c).ready.some
 
-pub signal_leave-out-requires-clause-of : goal.signal_leave-out-requires-clause-of
-signal_leave-out-requires-clause-of g c =
-    g.met.M.Monitor.keeps_of _ _ _ (came g (goal.at.signal_leave-out-requires-clause-of g c).After-state_mut).of
-
 pub signal_leave-out-requires-clause-ready : goal.signal_leave-out-requires-clause-ready
 signal_leave-out-requires-clause-ready g c =
     ReadyNonfull-removed (came g (goal.at.signal_leave-out-requires-clause-ready g c).After-state_mut).ready
@@ -44,11 +40,6 @@ signal_leave-out-requires-clause-rest g c =
     BufferRests-removed (came g (goal.at.signal_leave-out-requires-clause-rest g c).After-state_mut).ready
     (rw c.state_mut.ensures.value at c.pop-item.ensures.items) (rw c.state_mut.ensures.value at c.pop-item.ensures.size)
     (g.met.M.Monitor.takes_data _ _) (g.met.M.Monitor.keeps_lists _ _)
-
-pub returns-clause-place : goal.returns-clause-place
-returns-clause-place g c =
-    c.signal_leave-out.ensures.place
-    ∙ (g.met.M.Monitor.keeps_place _ _ ∙ (came g (goal.at.returns-clause-place g c).After-state_mut).place)
 
 pub returns-clause-trace : goal.returns-clause-trace
 returns-clause-trace g c =

@@ -21,10 +21,3 @@ returns-clause-trace g c =
     (g.met.M.Monitor.keeps_place _ _ ∙ c.enter-inside.ensures.place)
     (g.met.M.Monitor.takes_data _ _ ∙ (rw c.state_mut.ensures.value at c.set_free.ensures))
     (g.met.M.Monitor.keeps_front _ _))
-
-pub signal_leave-out-requires-clause-of : goal.signal_leave-out-requires-clause-of
-signal_leave-out-requires-clause-of g c = g.met.M.Monitor.keeps_of _ _ _ c.enter-inside.ensures.of
-
-pub returns-clause-place : goal.returns-clause-place
-returns-clause-place g c =
-    c.signal_leave-out.ensures.place ∙ (g.met.M.Monitor.keeps_place _ _ ∙ c.enter-inside.ensures.place)

@@ -54,10 +54,6 @@ own_least-buffer-requires-clause-stream g c = rw c.state_mut.ensures.value (came
 pub own_least-buffer-requires-clause-some : goal.own_least-buffer-requires-clause-some
 own_least-buffer-requires-clause-some g c = rw c.state_mut.ensures.value (came g c).ready.1.some
 
-pub leave-requires-2-clause-of : goal.leave-requires-2-clause-of
-leave-requires-2-clause-of g c =
-    g.met.M.Monitor.keeps_of _ _ _ (came g (goal.at.leave-requires-2-clause-of g c).After-state_mut).of
-
 pub leave-requires-2-clause-rest : goal.leave-requires-2-clause-rest
 leave-requires-2-clause-rest g c =
     let inside = came g (goal.at.leave-requires-2-clause-rest g c).After-state_mut in
@@ -65,11 +61,6 @@ leave-requires-2-clause-rest g c =
     (rw c.state_mut.ensures.value at c.own_least-buffer.ensures.least)
     (g.met.M.Monitor.takes_data _ _ ∙ (rw c.state_mut.ensures.value at c.own_least-buffer.ensures.owned))
     (ap (λ q. q 0) (g.met.M.Monitor.keeps_lists _ _))
-
-pub returns-clause-place : goal.returns-clause-place
-returns-clause-place g c =
-    c.leave-2.ensures.place
-    ∙ (g.met.M.Monitor.keeps_place _ _ ∙ (came g (goal.at.returns-clause-place g c).After-state_mut).place)
 
 pub returns-clause-trace : goal.returns-clause-trace
 returns-clause-trace g c =

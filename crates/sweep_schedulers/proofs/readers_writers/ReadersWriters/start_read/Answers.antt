@@ -27,10 +27,6 @@ came g c = elim c.if-is_busy.branch [
 pub admit-read-requires : goal.admit-read-requires
 admit-read-requires g c = rw c.state_mut.ensures.value (came g c).ready.no_writer
 
-pub signal_leave-out-requires-clause-of : goal.signal_leave-out-requires-clause-of
-signal_leave-out-requires-clause-of g c =
-    g.met.M.Monitor.keeps_of _ _ _ (came g (goal.at.signal_leave-out-requires-clause-of g c).After-state_mut).of
-
 pub signal_leave-out-requires-clause-ready : goal.signal_leave-out-requires-clause-ready
 signal_leave-out-requires-clause-ready g c =
     λ _. ReadReady-admitted (came g (goal.at.signal_leave-out-requires-clause-ready g c).After-state_mut).ready
@@ -40,11 +36,6 @@ pub signal_leave-out-requires-clause-rest : goal.signal_leave-out-requires-claus
 signal_leave-out-requires-clause-rest g c =
     ReadersRest-admitted (came g (goal.at.signal_leave-out-requires-clause-rest g c).After-state_mut).ready
     (rw c.state_mut.ensures.value at c.admit-read.ensures) (g.met.M.Monitor.takes_data _ _)
-
-pub returns-clause-place : goal.returns-clause-place
-returns-clause-place g c =
-    c.signal_leave-out.ensures.place
-    ∙ (g.met.M.Monitor.keeps_place _ _ ∙ (came g (goal.at.returns-clause-place g c).After-state_mut).place)
 
 pub returns-clause-trace : goal.returns-clause-trace
 returns-clause-trace g c =

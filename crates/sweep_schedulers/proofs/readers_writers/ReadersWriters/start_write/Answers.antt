@@ -33,19 +33,10 @@ came g c = elim c.if-is_in_use.branch [
       (WriteReady-at_once c.enter-inside.ensures.rest unused))
 ]
 
-pub leave-requires-clause-of : goal.leave-requires-clause-of
-leave-requires-clause-of g c =
-    g.met.M.Monitor.keeps_of _ _ _ (came g (goal.at.leave-requires-clause-of g c).After-state_mut).of
-
 pub leave-requires-clause-rest : goal.leave-requires-clause-rest
 leave-requires-clause-rest g c =
     ReadersRest-reserved (came g (goal.at.leave-requires-clause-rest g c).After-state_mut).ready
     (g.met.M.Monitor.takes_data _ _ ∙ (rw c.state_mut.ensures.value at c.reserve-value.ensures.after))
-
-pub returns-clause-place : goal.returns-clause-place
-returns-clause-place g c =
-    c.leave.ensures.place
-    ∙ (g.met.M.Monitor.keeps_place _ _ ∙ (came g (goal.at.returns-clause-place g c).After-state_mut).place)
 
 pub returns-clause-trace : goal.returns-clause-trace
 returns-clause-trace g c =

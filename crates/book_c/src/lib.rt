@@ -46,7 +46,7 @@ pub extern "C" fn zaulinte_book_make(
 #[unsafe(no_mangle)]
 pub extern "C" fn zaulinte_book_free(alloc: Global, book: &mut Held) -> u64
     ensures freed { book.new.live ≡ 0 }
-    ensures told { book.old.live ≡ 1 → result ≡ 0 }
+    ensures answer { book.old.live ≡ 1 → result ≡ 0 }
     ensures none { LacksBook book.old.live book.old book.new result }
 {
     book.free(alloc)

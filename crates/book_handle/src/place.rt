@@ -70,7 +70,7 @@ impl Held {
     /// Frees the book, and returns 0. Refused: `NO_BOOK`, with nothing changed.
     pub fn free(&mut self, alloc: Global) -> u64
         ensures freed { self.new.live ≡ 0 }
-        ensures told { self.old.live ≡ 1 → result ≡ 0 }
+        ensures answer { self.old.live ≡ 1 → result ≡ 0 }
         ensures none { LacksBook self.old.live self.old self.new result }
     {
         let Some(book) = self.held().take(alloc) else {

@@ -79,7 +79,7 @@ fn read_lines<R: Read>(
     jobs: &mut Option<Jobs>,
 ) -> Result<(), ServiceFault>
     requires { jobs.old ≡ None }
-    ensures told { ReadsFrom R.remaining reader.old reader.new (λ text left.
+    ensures answer { ReadsFrom R.remaining reader.old reader.new (λ text left.
         GivesTo text left jobs.new result) }
     ensures some { OnOk result (jobs.new ≢ None) }
     ensures counts { HasRead reader.old reader.new (4098 * 257) (4098 * 257) }
@@ -122,7 +122,7 @@ fn one_line(
     number: u64,
     line: &[u8],
 ) -> Result<(), ServiceFault>
-    ensures told { Follows (one_line jobs.old number line.now) number jobs.new result }
+    ensures answer { Follows (one_line jobs.old number line.now) number jobs.new result }
     ensures fault { IfErr result IsOfReading }
 {
     match jobs {
@@ -154,7 +154,7 @@ fn header_line(alloc: Global, number: u64, line: &[u8]) -> Result<Jobs, ServiceF
 
 // Appends the job of a line.
 fn job_line(jobs: &mut Jobs, number: u64, line: &[u8]) -> Result<(), ServiceFault>
-    ensures told { Follows (job_line jobs.old number (one_number (codes "read") line.now)) number
+    ensures answer { Follows (job_line jobs.old number (one_number (codes "read") line.now)) number
         (Some jobs.new) result }
     ensures fault { IfErr result IsOfReading }
 {

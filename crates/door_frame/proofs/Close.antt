@@ -18,7 +18,7 @@ use Rattle.door_frame.specs.declared.parcel.Guarded.{Guarded}
 use Rattle.door_frame.specs.declared.view.PlaceView.{PlaceView}
 use Rattle.door_frame.specs.declared.view.SeatView.{SeatView}
 use Rattle.door_frame.specs.declared.view.SeatView.TheVariants.{Places}
-use Rattle.door_frame.specs.Places.{DoorId, PlaceOut, HasPlace, IsTold, IsOut, Closes}
+use Rattle.door_frame.specs.Places.{DoorId, PlaceOut, HasPlace, IsInHistory, IsOut, Closes}
 use Rattle.door_frame.specs.Rule.{Tokens, Agrees, TableInvariant}
 use Rattle.door_frame.specs.Views.{knows, alone, Each, both_places, no_places}
 use Rattle.door_frame.proofs.Steps.{running, joins_ok, given_up_free}
@@ -34,12 +34,12 @@ module _ {D : Type 0} where
   known_to [] = []
   known_to (o ∷ os) = knows o.place o.front None ∷ known_to os
 
-  told_all : (n : ℕ) (log : History D) (owner : ℕ → ℕ) (tokens : Tokens) (id : ℕ) (os : List (PlaceOut D))
-      → Each (Agrees n log owner tokens id) (known_to os) → All (IsTold log) os
-  told_all n log owner tokens id [] agree = All-nil (IsTold log)
-  told_all n log owner tokens id (o ∷ os) agree =
-      All-cons (IsTold log) o os (record { begins = agree.0.begins; own_are = agree.0.own_are })
-      (told_all n log owner tokens id os agree.1)
+  in_history_all : (n : ℕ) (log : History D) (owner : ℕ → ℕ) (tokens : Tokens) (id : ℕ) (os : List (PlaceOut D))
+      → Each (Agrees n log owner tokens id) (known_to os) → All (IsInHistory log) os
+  in_history_all n log owner tokens id [] agree = All-nil (IsInHistory log)
+  in_history_all n log owner tokens id (o ∷ os) agree =
+      All-cons (IsInHistory log) o os (record { begins = agree.0.begins; own_are = agree.0.own_are })
+      (in_history_all n log owner tokens id os agree.1)
 
   -- what is found in the slot at the end
   pub record Ends (rest : Rest D) (ready : Ready D) (kinds : Kinds) (d : DoorId) (os : List (PlaceOut D))
@@ -84,7 +84,7 @@ module _ {D : Type 0} where
               history = r.log;
               sized = r.sized;
               stands = r.stands;
-              told = told_all d.places r.log r.owner r.tokens id os agree;
+              fronts = in_history_all d.places r.log r.owner r.tokens id os agree;
               latest = home.2.latest;
             };
             rests = subst (λ (s : D). rest s nobody) (sym home.2.latest) (rest-ended rest ready r.log r.stands out);

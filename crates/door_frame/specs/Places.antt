@@ -84,7 +84,7 @@ module _ {D : Type 0} where
   HasPlace k (o ∷ os) = (o.place ≡ k) ⊎ HasPlace k os
 
   -- the history begins with what the place knows, and has no other events of it
-  pub record IsTold (h : History D) (o : PlaceOut D) : Type 0 where
+  pub record IsInHistory (h : History D) (o : PlaceOut D) : Type 0 where
     pub begins : Begins o.front h
     pub own_are : own o.place h.events ≡ own o.place o.front.events
 
@@ -158,5 +158,5 @@ module _ {D : Type 0} where
       pub history : History D
       pub sized : history.sizes ≡ sizes_at kinds door.places
       pub stands : Stands rest ready history
-      pub told : All (IsTold history) os
+      pub fronts : All (IsInHistory history) os
       pub latest : s ≡ latest_data history

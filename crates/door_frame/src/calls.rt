@@ -256,7 +256,7 @@ pub fn signal<D: MonitorData, T: Wakes<D>, R: Wait>(
         → Handed D.ready condition inside }
     ensures of { IsIn D.rest D.ready (T.kinds door.now) (T.id door.now) result.0 }
     ensures place { result.0.place ≡ inside.place }
-    ensures told { IsTrue result.1 ↔ (priorities inside.front.events condition ≢ []) }
+    ensures answer { IsTrue result.1 ↔ (priorities inside.front.events condition ≢ []) }
     ensures rest { result.1 ≡ true → D.rest result.0.state (priorities result.0.front.events) }
     ensures same { result.1 ≡ false → result.0 ≡ inside }
     ensures front { Signals inside.place condition inside.state result.0.state
@@ -284,7 +284,7 @@ pub fn signal_leave_to<D: MonitorData, T: RawMonitor<D>, S: Parking>(
         → D.rest inside.state (priorities inside.front.events) }
     ensures of { IsOut D.rest D.ready (T.kinds door.now) (T.id door.now) result.0 }
     ensures place { result.0.place ≡ inside.place }
-    ensures told { IsTrue result.1 ↔ (priorities inside.front.events condition ≢ []) }
+    ensures answer { IsTrue result.1 ↔ (priorities inside.front.events condition ≢ []) }
     ensures front { Exits inside.place condition inside.state inside.front result.0.front result.1 }
     ensures next { result.2 ≡ next_of (turn result.0.front.events) }
 {
@@ -313,7 +313,7 @@ pub fn signal_leave<D: MonitorData, T: RawMonitor<D>, S: Parking>(
         → D.rest inside.state (priorities inside.front.events) }
     ensures of { IsOut D.rest D.ready (T.kinds door.now) (T.id door.now) result.0 }
     ensures place { result.0.place ≡ inside.place }
-    ensures told { IsTrue result.1 ↔ (priorities inside.front.events condition ≢ []) }
+    ensures answer { IsTrue result.1 ↔ (priorities inside.front.events condition ≢ []) }
     ensures front { Exits inside.place condition inside.state inside.front result.0.front result.1 }
 {
     let (out, told, _) = signal_leave_to(door, inside, condition);
@@ -328,7 +328,7 @@ fn book_calls(book: &mut Book, place: usize, notice: Notice) -> usize
     requires mesa { IsMesa book.old.sizes.conditions book.old.sizes.mesa (called_on notice) }
     ensures of { (h : History (Unit {0})) → IsOf book.old h
         → IsOf book.new (after_notice h place notice) }
-    ensures told { IsCounted notice (priorities_on book.old (called_on notice)) result }
+    ensures answer { IsCounted notice (priorities_on book.old (called_on notice)) result }
 {
     match notice {
         Notice::Notify(condition) => usize::from(book.notify(place, condition)),
@@ -349,7 +349,7 @@ fn call<D: MonitorData, T: RawMonitor<D>, S: Parking>(
     requires some { priorities inside.old.front.events (called_on notice) ≢ [] }
     ensures noted { Noted D.rest D.ready (T.kinds door.now) (T.id door.now)
         inside.old notice inside.new }
-    ensures told { IsCounted notice (priorities inside.old.front.events (called_on notice)) result }
+    ensures answer { IsCounted notice (priorities inside.old.front.events (called_on notice)) result }
 {
     let place = inside.place;
     door.note(&mut inside.seat, &inside.parcel, place, notice);
@@ -370,7 +370,7 @@ pub fn notify<D: MonitorData, T: RawMonitor<D>, S: Parking>(
     ensures data { inside.new.state ≡ inside.old.state }
     ensures lists { priorities inside.new.front.events
         ≡ taken (priorities inside.old.front.events) condition }
-    ensures told { IsTrue result ↔ (priorities inside.old.front.events condition ≢ []) }
+    ensures answer { IsTrue result ↔ (priorities inside.old.front.events condition ≢ []) }
     ensures front { Notifies inside.old.place condition inside.old.state
         inside.old.front inside.new.front result }
 {
@@ -394,7 +394,7 @@ pub fn broadcast<D: MonitorData, T: RawMonitor<D>, S: Parking>(
     ensures data { inside.new.state ≡ inside.old.state }
     ensures lists { priorities inside.new.front.events
         ≡ emptied (priorities inside.old.front.events) condition }
-    ensures told { result ≡ length (priorities inside.old.front.events condition) }
+    ensures answer { result ≡ length (priorities inside.old.front.events condition) }
     ensures front { Broadcasts inside.old.place condition inside.old.state
         inside.old.front inside.new.front }
 {

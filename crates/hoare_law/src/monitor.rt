@@ -137,7 +137,7 @@ pub trait Monitor<D: MonitorData> {
             (taken (lists_in inside) condition) }
         ensures of { is_of_in self.now result.0 }
         ensures place { place_in result.0 ≡ place_in inside }
-        ensures told { IsTrue result.1 ↔ (lists_in inside condition ≢ []) }
+        ensures answer { IsTrue result.1 ↔ (lists_in inside condition ≢ []) }
         ensures rest { result.1 ≡ true → D.rest (data_in result.0) (lists_in result.0) }
         ensures same { result.1 ≡ false → result.0 ≡ inside }
         ensures front { Signals (place_in inside) condition (data_in inside) (data_in result.0)
@@ -157,7 +157,7 @@ pub trait Monitor<D: MonitorData> {
         requires rest { lists_in inside condition ≡ [] → D.rest (data_in inside) (lists_in inside) }
         ensures of { is_of self.now result.0 }
         ensures place { place result.0 ≡ place_in inside }
-        ensures told { IsTrue result.1 ↔ (lists_in inside condition ≢ []) }
+        ensures answer { IsTrue result.1 ↔ (lists_in inside condition ≢ []) }
         ensures front { Exits (place_in inside) condition (data_in inside) (front_in inside)
             (front result.0) result.1 };
 
@@ -174,7 +174,7 @@ pub trait Monitor<D: MonitorData> {
         ensures place { place_in inside.new ≡ place_in inside.old }
         ensures data { data_in inside.new ≡ data_in inside.old }
         ensures lists { lists_in inside.new ≡ taken (lists_in inside.old) condition }
-        ensures told { IsTrue result ↔ (lists_in inside.old condition ≢ []) }
+        ensures answer { IsTrue result ↔ (lists_in inside.old condition ≢ []) }
         ensures front { Notifies (place_in inside.old) condition (data_in inside.old)
             (front_in inside.old) (front_in inside.new) result };
 
@@ -187,7 +187,7 @@ pub trait Monitor<D: MonitorData> {
         ensures place { place_in inside.new ≡ place_in inside.old }
         ensures data { data_in inside.new ≡ data_in inside.old }
         ensures lists { lists_in inside.new ≡ emptied (lists_in inside.old) condition }
-        ensures told { result ≡ length (lists_in inside.old condition) }
+        ensures answer { result ≡ length (lists_in inside.old condition) }
         ensures front { Broadcasts (place_in inside.old) condition (data_in inside.old)
             (front_in inside.old) (front_in inside.new) };
 

@@ -89,7 +89,7 @@ fn answer_lines<R: Read, W: Write>(
     opened: &mut Option<Opened>,
 ) -> Result<(), ScriptFault>
     requires { opened.old ≡ None }
-    ensures told { ReadsFrom R.remaining reader.old reader.new (λ text left.
+    ensures answer { ReadsFrom R.remaining reader.old reader.new (λ text left.
         Tells text left (W.contents (writer_inside writer.old))
         (W.contents (writer_inside writer.new)) result) }
     ensures counts { HasRead reader.old reader.new 1048577 1048577 }

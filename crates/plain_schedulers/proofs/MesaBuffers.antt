@@ -52,7 +52,7 @@ module _ {S : Type 0} {k k1 k2 c : ℕ} {s s1 s2 : S} {f f1 g h : History S} {b 
   pub Tells-leave : Notifies k1 c s1 f1 g b → k1 ≡ k → s1 ≡ s → f1 ≡ f → h ≡ with_event g (Leave k2 s2) → k2 ≡ k
       → s2 ≡ s → Tells k c s f h
   Tells-leave notifies place state front leaves placed kept = record {
-    told = b;
+    answer = b;
     front = g;
     notifies = rw (place, state, front) at notifies;
     leaves = rw (placed, kept) at leaves;

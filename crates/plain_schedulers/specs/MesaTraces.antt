@@ -15,9 +15,9 @@ pub data Rounds {T : Type 0} (k c : ℕ) (f : History (Buffered T)) : History (B
 
 -- k notified a waiter on c, if there was one, and left with the data s
 pub record Tells {S : Type 0} (k c : ℕ) (s : S) (f h : History S) : Type 0 where
-  pub told : Bool
+  pub answer : Bool
   pub front : History S
-  pub notifies : Notifies k c s f front told
+  pub notifies : Notifies k c s f front answer
   pub leaves : h ≡ with_event front (Leave k s)
 
 -- k put x in as the newest, notified a waiter on nonempty, if there was one, and left; before that it waited on nonfull

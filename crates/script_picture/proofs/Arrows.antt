@@ -22,7 +22,7 @@ use Rattle.script_picture.specs.declared.chart.Lane.{Lane}
 use Rattle.script_picture.specs.declared.chart.Lane.TheVariants as lanes
 use Rattle.script_picture.specs.declared.chart.Row.{Row}
 use Rattle.script_picture.specs.Lanes.{actor, between, hand_over_answered, hand_over_commanded, hand_over}
-use Rattle.script_picture.specs.Shown.{Does, IsClaimed, Shows, IsTold, HandsOver, KeepsTurn, after_rows, opening}
+use Rattle.script_picture.specs.Shown.{Does, IsClaimed, Shows, IsAnsweredThroughout, HandsOver, KeepsTurn, after_rows, opening}
 use Rattle.script_picture.proofs.Does.{Log}
 use Rattle.script_picture.proofs.Shown.{turn-with, held_test, held_is, claimed-step, places-after, Answered-at}
 use Rattle.script_picture.proofs.Shown.{Answered-before, after_rows-next}
@@ -91,7 +91,7 @@ told t i d a b = (λ x. b.1 (a.0 x), λ y. a.1 (b.0 y))
 -- a row that hands off, between lanes that show the history before it and after it
 pub HandsOver-between : (c : Chart) (seen : List Row) (i : ℕ) (d : Row) (old new : List Lane) (over : HandOver)
     (returns gone : Bool) → seen ≡ c.rows.items → i < length seen
-    → IsTold c → Shows (after_rows (opening c.header) (take i c.rows.items)) old
+    → IsAnsweredThroughout c → Shows (after_rows (opening c.header) (take i c.rows.items)) old
     → Shows (after_rows (opening c.header) (take (i + 1) c.rows.items)) new
     → hand_over (slice_index_or seen i d) ≡ Some over
     → IsTrue returns ↔ (slice_index_or old over.to lanes.Outside ≡ lanes.Signalling)

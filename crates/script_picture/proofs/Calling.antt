@@ -22,7 +22,7 @@ use Rattle.script_picture.specs.declared.chart.Lane.TheVariants as lanes
 use Rattle.script_picture.specs.declared.chart.Row.{Row}
 use Rattle.script_picture.specs.Lanes.{actor, caller, caller_commanded, is_call, lane_answered, lane_beside}
 use Rattle.script_picture.specs.Lanes.{lane_commanded, lane_after}
-use Rattle.script_picture.specs.Shown.{Does, HasBook, IsAnswered, IsTold, Calls, LeavesAlone, after_rows, opening}
+use Rattle.script_picture.specs.Shown.{Does, HasBook, IsAnswered, IsAnsweredThroughout, Calls, LeavesAlone, after_rows, opening}
 use Rattle.script_picture.proofs.Does.{Log, lane_of, lane_beside-last, is_among, is_among-less, number_none}
 use Rattle.script_picture.proofs.Does.{number_some, uncalled-push, Does-last, Does-by_last}
 use Rattle.script_picture.proofs.Shown.{Follows, Follows-next, held_test, held_is, Answered-at, Answered-before}
@@ -165,7 +165,7 @@ calls_nobody (First c) k before row at none call =
 
 -- a row that notifies a place, by what that place does before it
 pub Calls-at : (c : Chart) (seen : List Row) (i : ℕ) (d : Row) (k : ℕ) (lane : Lane) (from : ℕ) → seen ≡ c.rows.items
-    → i < length seen → IsTold c
+    → i < length seen → IsAnsweredThroughout c
     → Follows (opening c.header) c.rows.items i k lane → caller (slice_index_or seen i d) k lane ≡ Some from
     → Calls c i from k
 Calls-at c seen i d k lane from seen_is below is_told follows calls =
@@ -211,7 +211,7 @@ Calls-at c seen i d k lane from seen_is below is_told follows calls =
 
 -- if a row has no notifying place for the place k, it doesn't notify k
 pub LeavesAlone-at : (c : Chart) (seen : List Row) (i : ℕ) (d : Row) (k : ℕ) (lane : Lane) → seen ≡ c.rows.items
-    → i < length seen → IsTold c
+    → i < length seen → IsAnsweredThroughout c
     → Follows (opening c.header) c.rows.items i k lane → caller (slice_index_or seen i d) k lane ≡ None
     → LeavesAlone c i k
 LeavesAlone-at c seen i d k lane seen_is below is_told follows calls = λ waits called.

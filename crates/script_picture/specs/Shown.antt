@@ -80,8 +80,8 @@ abbrev pub IsShownAfter : List Lane → Row → Type 0
 IsShownAfter drawn row = (h : History (Unit {0})) × IsAnswered h row × Shows (history_after h row.command) drawn
 
 -- a picture has lanes for all the places, and each row has the answer by the history since the opening
-abbrev pub IsTold : Chart → Type 0
-IsTold c = (c.header.places ≤ 64) × Answered (opening c.header) c.rows.items
+abbrev pub IsAnsweredThroughout : Chart → Type 0
+IsAnsweredThroughout c = (c.header.places ≤ 64) × Answered (opening c.header) c.rows.items
 
 -- after each row from since up to end, which isn't included, a place does this
 abbrev pub DoesDuring : Chart → ℕ → Lane → ℕ → ℕ → Type 0
@@ -132,4 +132,4 @@ IsInFront old new = (more : List Row) × (new ≡ old ++ more)
 
 -- and the book is of the history after the rows
 abbrev pub IsRead : Script → Type 0
-IsRead s = IsTold s.chart × IsOf s.opened (after_rows (opening s.chart.header) s.chart.rows.items)
+IsRead s = IsAnsweredThroughout s.chart × IsOf s.opened (after_rows (opening s.chart.header) s.chart.rows.items)

@@ -2,7 +2,7 @@
 ghost use Rattle.std.specs.Prelude.{◌≡◌, ◌||◌, false, length};
 ghost use Rattle.line_text.specs.Streams.{has_read_failed};
 ghost use Rattle.script_picture.specs.Faults.{IsTallBy, is_read_fault, is_too_tall, is_without_room, rows_shown};
-ghost use Rattle.script_picture.specs.Shown.{IsTold};
+ghost use Rattle.script_picture.specs.Shown.{IsAnsweredThroughout};
 
 use crate::chart::Chart;
 use crate::fault::PictureFault;
@@ -60,7 +60,7 @@ pub fn draw_watched<R: Read, W: Write>(
 
 // Writes a chart in a form, unless the form has no room for it.
 fn draw_chart<W: Write>(writer: &mut W, chart: &Chart, form: Form) -> Result<(), PictureFault>
-    requires { IsTold chart.now }
+    requires { IsAnsweredThroughout chart.now }
     ensures read { is_read_fault result ≡ false }
     ensures tall { is_too_tall result ≡ is_without_room form (length chart.now.rows.items) }
     ensures steps { IsTallBy (rows_shown form (length chart.now.rows.items)) result }
@@ -96,7 +96,7 @@ fn rows_shown(form: Form, rows: u64) -> u64
 }
 
 fn write_chart<W: Write>(writer: &mut W, chart: &Chart, form: Form) -> io::Result<()>
-    requires { IsTold chart.now }
+    requires { IsAnsweredThroughout chart.now }
 {
     match form {
         Form::Svg(steps) => svg::draw(writer, chart, steps)?,

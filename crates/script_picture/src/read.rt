@@ -8,7 +8,7 @@ ghost use Rattle.hoare_script.specs.Lines.{command_of, sizes_in};
 ghost use Rattle.hoare_script.specs.Runs.{is_read_fault};
 ghost use Rattle.line_text.specs.Streams.{has_read_failed};
 ghost use Rattle.script_picture.specs.Faults.{header_fault, is_header_fault, line_fault};
-ghost use Rattle.script_picture.specs.Shown.{IsInFront, IsRead, IsRowMore, IsTold, opening};
+ghost use Rattle.script_picture.specs.Shown.{IsInFront, IsRead, IsRowMore, IsAnsweredThroughout, opening};
 
 use crate::chart::{Chart, Numbers, Row};
 use arrayvec::ArrayVec;
@@ -42,7 +42,7 @@ pub fn open_script<R: Read>(
     alloc: Global,
     reader: &mut WatchedReader<'_, R>,
 ) -> Result<Script, ScriptFault>
-    ensures told { IfOk result IsRead }
+    ensures read { IfOk result IsRead }
     ensures failed { has_read_failed reader.new ≡ (has_read_failed reader.old || is_read_fault result) }
 {
     let mut line = ArrayVec::new();
@@ -119,7 +119,7 @@ impl Script {
         &mut self,
         reader: &mut WatchedReader<'_, R>,
     ) -> Result<(), ScriptFault>
-        ensures told { IsRead self.old → IsTold self.new.chart }
+        ensures answered { IsRead self.old → IsAnsweredThroughout self.new.chart }
         ensures kept { IsInFront self.old.chart.rows.items self.new.chart.rows.items }
         ensures fault { is_header_fault result ≡ false }
         ensures failed { has_read_failed reader.new
@@ -142,7 +142,7 @@ impl Script {
 
     // Does the command of a line, and adds its row with the answer.
     fn add_row(&mut self, line: &[u8], number: u64) -> Result<(), ScriptFault>
-        ensures told { IsRead self.old → IsTold self.new.chart }
+        ensures answered { IsRead self.old → IsAnsweredThroughout self.new.chart }
         ensures book { OnOk result (IsRead self.old → IsRead self.new) }
         ensures row { let command = command_of line.now in MatchResult result
             (λ done. IsRowMore command self.old.chart.rows.items self.new.chart.rows.items)

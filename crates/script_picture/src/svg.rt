@@ -1,6 +1,6 @@
 //! The SVG of a chart.
 ghost use Rattle.std.specs.Prelude.{◌≡◌, IfOk, length};
-ghost use Rattle.script_picture.specs.Shown.{IsTold};
+ghost use Rattle.script_picture.specs.Shown.{IsAnsweredThroughout};
 
 use crate::about::write_description;
 use crate::calls::{Call, Noted, write_call};
@@ -39,7 +39,7 @@ const MESA_STYLE: &str = "<style>
 /// Writes these steps of a chart: rows with their steps and remarks, a lane for each place with a box for each thing
 /// that the place does, and an arrow for each notification and each hand-off. The SVG refers to nothing outside itself.
 pub fn draw<W: Write>(writer: &mut W, chart: &Chart, steps: Steps) -> io::Result<()>
-    requires { IsTold chart.now }
+    requires { IsAnsweredThroughout chart.now }
 {
     let frame = frame_of(chart, steps);
     write_ground(writer, &frame, chart)?;
@@ -173,7 +173,7 @@ fn write_lane<W: Write>(writer: &mut W, x: u64, top: u64, bottom: u64) -> io::Re
 
 // Writes the arrows of notifications, lane by lane.
 fn write_calls<W: Write>(writer: &mut W, frame: &Frame, chart: &Chart) -> io::Result<()>
-    requires { IsTold chart.now }
+    requires { IsAnsweredThroughout chart.now }
 {
     for track in frame.tracks.as_slice() {
         let _noted = write_lane_calls(writer, frame, chart, *track)?;
@@ -188,7 +188,7 @@ fn write_lane_calls<W: Write>(
     chart: &Chart,
     track: Track,
 ) -> io::Result<Noted>
-    requires { IsTold chart.now }
+    requires { IsAnsweredThroughout chart.now }
     ensures { IfOk result (λ noted. noted.row ≡ length chart.now.rows.items) }
 {
     let mut lane = Lane::Outside;
@@ -207,7 +207,7 @@ fn write_lane_calls<W: Write>(
 // Writes the boxes, and the arrows of hand-offs. If there are Mesa conditions, the boxes cover these arrows: with a
 // hand-off the number of each notified process changes, so its next box begins beside the arrow.
 fn write_shapes<W: Write>(writer: &mut W, frame: &Frame, chart: &Chart) -> io::Result<()>
-    requires { IsTold chart.now }
+    requires { IsAnsweredThroughout chart.now }
 {
     if chart.header.mesa == 0 {
         write_boxes(writer, frame, chart)?;
@@ -221,7 +221,7 @@ fn write_shapes<W: Write>(writer: &mut W, frame: &Frame, chart: &Chart) -> io::R
 
 // Writes the boxes, lane by lane.
 fn write_boxes<W: Write>(writer: &mut W, frame: &Frame, chart: &Chart) -> io::Result<()>
-    requires { IsTold chart.now }
+    requires { IsAnsweredThroughout chart.now }
 {
     for track in frame.tracks.as_slice() {
         let _boxed = write_lane_boxes(writer, frame, chart, *track)?;
@@ -236,7 +236,7 @@ fn write_lane_boxes<W: Write>(
     chart: &Chart,
     track: Track,
 ) -> io::Result<Boxed>
-    requires { IsTold chart.now }
+    requires { IsAnsweredThroughout chart.now }
     ensures { IfOk result (λ boxed. boxed.row ≡ length chart.now.rows.items) }
 {
     let mut lane = Lane::Outside;
@@ -255,7 +255,7 @@ fn write_lane_boxes<W: Write>(
 
 // Writes an arrow for each hand-off: no row that hands off is passed over.
 fn write_arrows<W: Write>(writer: &mut W, frame: &Frame, chart: &Chart) -> io::Result<Crossed>
-    requires { IsTold chart.now }
+    requires { IsAnsweredThroughout chart.now }
     ensures { IfOk result (λ crossed. crossed.row ≡ length chart.now.rows.items) }
 {
     let mut lanes = outside_lanes(chart.header);

@@ -1,6 +1,6 @@
 //! The chart as text: a row for each step, a lane for each place that isn't idle. Lanes that a terminal has no room for
 //! are in further blocks below, each with all steps.
-ghost use Rattle.script_picture.specs.Shown.{IsShownAfter, IsTold};
+ghost use Rattle.script_picture.specs.Shown.{IsShownAfter, IsAnsweredThroughout};
 
 use crate::calls::{Callers, callers_of};
 use crate::chart::{Chart, HandOver, Lanes, Row, advance, hand_over, lane_of, outside_lanes};
@@ -57,7 +57,7 @@ struct Arrows {
 /// empty line and has the same rows. The remarks, which the lanes don't show, are in the last block: at the end of the
 /// line, or below the step if the line has no room.
 pub fn draw<W: Write>(writer: &mut W, chart: &Chart) -> io::Result<()>
-    requires { IsTold chart.now }
+    requires { IsAnsweredThroughout chart.now }
 {
     let shown = ALL_STEPS.among(chart.rows.len() as u64);
     let widths = widths_of(chart, shown);
@@ -99,7 +99,7 @@ fn write_block<W: Write>(
     widths: &Widths,
     block: Block,
 ) -> io::Result<()>
-    requires { IsTold chart.now }
+    requires { IsAnsweredThroughout chart.now }
 {
     let mut lanes = outside_lanes(chart.header);
     write_head(writer, chart, widths, block)?;

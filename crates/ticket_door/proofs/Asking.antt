@@ -13,7 +13,7 @@ use Rattle.hoare_law.specs.Lawful.{Rest, Ready}
 use Rattle.door_frame.specs.declared.parcel.Guarded.{Guarded}
 use Rattle.hoare_law.specs.Growth.{AddsLast, Begins}
 use Rattle.hoare_law.specs.Priorities.{priorities}
-use Rattle.door_frame.specs.Places.{PlaceId, Entered, PlaceOut, PlaceIn, IsOut, IsIn, IsTold, place_in}
+use Rattle.door_frame.specs.Places.{PlaceId, Entered, PlaceOut, PlaceIn, IsOut, IsIn, IsInHistory, place_in}
 use Rattle.door_frame.proofs.Arrivals.{entered}
 use Rattle.door_frame.proofs.Departures.{told_out}
 use Rattle.hoare_law.specs.declared.event.History.{History}
@@ -64,7 +64,7 @@ module _ {D : Type 0} where
     pub record Asks (d : TicketDoorId) (o : PlaceOut D) (a : PlaceAsked D) : Type 0 where
       pub of : IsAsked rest ready kinds d a
       pub place : a.place ≡ o.place
-      pub front : IsTold a.front o
+      pub front : IsInHistory a.front o
 
     pub asks_as : (d : TicketDoorId) (o : PlaceOut D) (a : PlaceAsked D) {k : ℕ} {g : History D} {x : ℕ} {m : SeatState
         D}
@@ -155,7 +155,7 @@ module _ {D : Type 0} where
 
     -- a place that asked and came in has entered
     pub entered_by : (d : TicketDoorId) (a : PlaceAsked D) {o : PlaceOut D} {i : PlaceIn D} → a.place ≡ o.place
-        → IsTold a.front o → IsIn rest ready kinds d.door i → i.place ≡ a.place
+        → IsInHistory a.front o → IsIn rest ready kinds d.door i → i.place ≡ a.place
         → rest i.state (priorities i.front.events) → AddsLast a.front (Admit a.place i.state) i.front
         → Entered rest ready kinds d.door o i
     entered_by d a {o = o} {i = i} at told of place rests front = record {

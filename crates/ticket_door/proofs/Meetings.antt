@@ -5,7 +5,7 @@ use Rattle.hoare_law.specs.Sizes.{Kinds}
 use Rattle.hoare_law.specs.Lawful.{Rest, Ready, Stands}
 use Rattle.door_frame.specs.declared.view.PlaceView.{PlaceView}
 use Rattle.door_frame.specs.declared.view.SeatView.TheVariants.{Places}
-use Rattle.door_frame.specs.Places.{PlaceId, DoorId, PlaceOut, IsOut, IsTold, place_id_at, place_out}
+use Rattle.door_frame.specs.Places.{PlaceId, DoorId, PlaceOut, IsOut, IsInHistory, place_id_at, place_out}
 use Rattle.door_frame.specs.Seats.{IsEmptyHanded}
 use Rattle.door_frame.specs.Steps.{SeatState, Known, Learns}
 use Rattle.door_frame.specs.Views.{alone, knows, both_places, places_behind, first_place}
@@ -35,7 +35,7 @@ module _ {D : Type 0} where
   went_second a b {h = h} place l is =
       is ∙ (ap (λ (z : SeatState D). (first_place z.0, [])) l.me_is ∙ (λ i. (alone (sym place i) h, [])))
 
-  told_by : (h : History D) (o : PlaceOut D) → Known h (knows o.place o.front None) → IsTold h o
+  told_by : (h : History D) (o : PlaceOut D) → Known h (knows o.place o.front None) → IsInHistory h o
   told_by h o k = record { begins = k.0; own_are = k.1 }
 
   -- r is the place o after it learned h
@@ -60,6 +60,6 @@ module _ {D : Type 0} where
         → d.front ≡ h → Meets a b c d
     meets a b c d h l first second = record {
       one = first ∙ sym second;
-      first = subst (λ (f : History D). IsTold f a) (sym second) (told_by h a l.fits.1.0);
-      second = subst (λ (f : History D). IsTold f b) (sym second) (told_by h b l.fits.0);
+      first = subst (λ (f : History D). IsInHistory f a) (sym second) (told_by h a l.fits.1.0);
+      second = subst (λ (f : History D). IsInHistory f b) (sym second) (told_by h b l.fits.0);
     }

@@ -7,7 +7,7 @@ ghost use Rattle.hoare_law.specs.Growth.{AddsLast, Exits};
 ghost use Rattle.hoare_law.specs.Sizes.{IsHoare, kinds_of};
 ghost use Rattle.hoare_law.specs.Priorities.{priorities};
 ghost use Rattle.hoare_law.specs.Turns.{outside};
-ghost use Rattle.door_frame.specs.Places.{IsOut, IsIn, IsTold, Handed};
+ghost use Rattle.door_frame.specs.Places.{IsOut, IsIn, IsInHistory, Handed};
 ghost use Rattle.door_frame.specs.Seats.{IsEmptyHanded, IsEntering};
 ghost use Rattle.door_frame.specs.Steps.{EnteredBy};
 ghost use Rattle.ticket_door.specs.Asked.{IsAsking, IsServed, IsAsked, EntersBy, WaitsBehind};
@@ -115,7 +115,7 @@ impl<D: MonitorData> RawTicketDoor<D> {
         requires { IsOut D.rest D.ready (kinds_of D.CONDITIONS D.MESA) self.now.door out }
         ensures of { IsAsked D.rest D.ready (kinds_of D.CONDITIONS D.MESA) self.now result }
         ensures place { result.place ≡ out.place }
-        ensures front { IsTold result.front out }
+        ensures front { IsInHistory result.front out }
     {
         let (mut seat, place, sleeper) = out.into_parts();
         let ticket = self.draw::<Brand>(&mut seat, place);
@@ -172,7 +172,7 @@ impl<D: MonitorData> RawTicketDoor<D> {
             → D.rest inside.state (priorities inside.front.events) }
         ensures of { IsOut D.rest D.ready (kinds_of D.CONDITIONS D.MESA) self.now.door result.0 }
         ensures place { result.0.place ≡ inside.place }
-        ensures told { IsTrue result.1 ↔ (priorities inside.front.events condition ≢ []) }
+        ensures answer { IsTrue result.1 ↔ (priorities inside.front.events condition ≢ []) }
         ensures front { Exits inside.place condition inside.state inside.front
             result.0.front result.1 }
     {

@@ -317,7 +317,7 @@ impl Book {
         requires mesa { IsMesa self.old.sizes.conditions self.old.sizes.mesa condition }
         ensures of { (h : History (Unit {0})) → IsOf self.old h
             → IsOf self.new (after_notify h place condition (chosen condition h.events)) }
-        ensures told { IsTrue result ↔ (priorities_on self.old condition ≢ []) }
+        ensures answer { IsTrue result ↔ (priorities_on self.old condition ≢ []) }
         ensures nobody { priorities_on self.old condition ≡ [] → self.new ≡ self.old }
         ensures inside { self.new.turn ≡ turns.Held place }
         ensures priorities { (c : ℕ)
@@ -335,7 +335,7 @@ impl Book {
         requires mesa { IsMesa self.old.sizes.conditions self.old.sizes.mesa condition }
         ensures of { (h : History (Unit {0})) → IsOf self.old h
             → IsOf self.new (after_broadcast h place condition (waiting condition h.events)) }
-        ensures told { result ≡ length (priorities_on self.old condition) }
+        ensures answer { result ≡ length (priorities_on self.old condition) }
         ensures inside { self.new.turn ≡ turns.Held place }
         ensures priorities { (c : ℕ)
             → priorities_on self.new c ≡ emptied (priorities_on self.old) condition c }

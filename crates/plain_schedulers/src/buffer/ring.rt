@@ -29,7 +29,7 @@ fn around(cell: usize, size: usize) -> usize
 impl<T: Drop> Buffer<T> {
     // Returns the number of items.
     pub(super) fn len(&self) -> usize
-        ensures told { result ≡ length self.now.items }
+        ensures answer { result ≡ length self.now.items }
         ensures holds { BufferHolds self.now }
     {
         self.count

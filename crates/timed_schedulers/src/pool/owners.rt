@@ -30,7 +30,7 @@ impl Pool {
 
     // Returns the number of free buffers.
     pub(super) fn free(&self) -> usize
-        ensures told { result ≡ free_count self.now }
+        ensures answer { result ≡ free_count self.now }
         ensures holds { PoolHolds self.now }
     {
         self.free

@@ -22,32 +22,32 @@ lines-init g c =
       read_mark = search rules;
     }
 
-pub returns-in-Err-Failed-clause-told : goal.returns-in-Err-Failed-clause-told
-returns-in-Err-Failed-clause-told g c =
+pub returns-in-Err-Failed-clause-answer : goal.returns-in-Err-Failed-clause-answer
+returns-in-Err-Failed-clause-answer g c =
     let e = c.in-Err-Failed.ensures in
     progress.exit_failed c.lines.invariant.goes
     (g.R.Read.remaining (reader_inside c.read_line.new.reader)) c.read_line.new.line.items
     e.one e.short c.in-Err-Failed.field-0 None c.in-Err-Failed.field-0-is e.known
 
-pub returns-in-Err-TooLong-clause-told : goal.returns-in-Err-TooLong-clause-told
-returns-in-Err-TooLong-clause-told g c =
+pub returns-in-Err-TooLong-clause-answer : goal.returns-in-Err-TooLong-clause-answer
+returns-in-Err-TooLong-clause-answer g c =
     let e = c.in-Err-TooLong.ensures in
     progress.exit_long c.lines.invariant.goes
     (g.R.Read.remaining (reader_inside c.read_line.new.reader)) c.read_line.new.line.items
     e.one e.short c.in-Err-TooLong.field-0 None c.in-Err-TooLong.field-0-is e.known e.fits
 
-pub returns-then-not-is_empty-clause-told : goal.returns-then-not-is_empty-clause-told
-returns-then-not-is_empty-clause-told g c =
+pub returns-then-not-is_empty-clause-answer : goal.returns-then-not-is_empty-clause-answer
+returns-then-not-is_empty-clause-answer g c =
     let e = c.in-Ok-Last.ensures in
     progress.exit_last c.lines.invariant.goes
     (g.R.Read.remaining (reader_inside c.read_line.new.reader)) c.read_line.new.line.items
     e.one e.short c.in-Ok-Last.field-0 _ c.one_line.result c.one_line.new.jobs c.in-Ok-Last.field-0-is
     c.as_slice.ensures.value e.known
     (λ z. absurd (grind (arith, nat_tests, c.is_empty.ensures, c.if-not-is_empty.true, ap length z)))
-    c.lines.invariant.numbered c.one_line.ensures.told
+    c.lines.invariant.numbered c.one_line.ensures.answer
 
-pub returns-then-number-eq1-clause-told : goal.returns-then-number-eq1-clause-told
-returns-then-number-eq1-clause-told g c =
+pub returns-then-number-eq1-clause-answer : goal.returns-then-number-eq1-clause-answer
+returns-then-number-eq1-clause-answer g c =
     let e = c.in-Ok-Last.ensures in
     progress.exit_empty c.lines.invariant.goes
     (g.R.Read.remaining (reader_inside c.read_line.new.reader)) c.read_line.new.line.items
@@ -55,8 +55,8 @@ returns-then-number-eq1-clause-told g c =
     (nil_from_length c.read_line.new.line.items (grind (arith, nat_tests, c.is_empty.ensures, c.if-not-is_empty.false)))
     c.lines.invariant.numbered c.if-number-eq1.true
 
-pub returns-in-Ok-Last-clause-told : goal.returns-in-Ok-Last-clause-told
-returns-in-Ok-Last-clause-told g c =
+pub returns-in-Ok-Last-clause-answer : goal.returns-in-Ok-Last-clause-answer
+returns-in-Ok-Last-clause-answer g c =
     let e = c.in-Ok-Last.ensures in
     progress.exit_done c.lines.invariant.goes
     (g.R.Read.remaining (reader_inside c.read_line.new.reader)) c.read_line.new.line.items
@@ -64,19 +64,19 @@ returns-in-Ok-Last-clause-told g c =
     (nil_from_length c.read_line.new.line.items (grind (arith, nat_tests, c.is_empty.ensures, c.if-not-is_empty.false)))
     c.lines.invariant.numbered c.if-number-eq1.false
 
-pub returns-in-Err-clause-told : goal.returns-in-Err-clause-told
-returns-in-Err-clause-told g c =
+pub returns-in-Err-clause-answer : goal.returns-in-Err-clause-answer
+returns-in-Err-clause-answer g c =
     let e = c.in-Ok-Line.ensures in
     progress.exit_fault c.lines.invariant.goes
     (g.R.Read.remaining (reader_inside c.read_line.new.reader)) c.read_line.new.line.items
     e.one e.short c.in-Ok-Line.field-0 _ c.in-Err.fault c.one_line-in-Ok-Line.new.jobs c.in-Ok-Line.field-0-is
     c.as_slice-in-Ok-Line.ensures.value e.known
-    c.lines.invariant.numbered c.in-Err.ensures.told
+    c.lines.invariant.numbered c.in-Err.ensures.answer
 
 pub lines-preserved : goal.lines-preserved
 lines-preserved g c =
     let e = c.in-Ok-Line.ensures in
-    let n = one_line-counts c.lines.jobs c.one_line-in-Ok-Line.new.jobs c.lines.number _ c.in_default.ensures.told in
+    let n = one_line-counts c.lines.jobs c.one_line-in-Ok-Line.new.jobs c.lines.number _ c.in_default.ensures.answer in
     let short : length c.read_line.new.line.items ≤ 256 = e.short in
     record {
       numbered = omega (arith, n.0, c.lines.invariant.numbered);
@@ -86,7 +86,7 @@ lines-preserved g c =
           (g.R.Read.remaining (reader_inside c.read_line.new.reader)) c.read_line.new.line.items
           e.one e.short c.in-Ok-Line.field-0 _ c.one_line-in-Ok-Line.new.jobs c.in-Ok-Line.field-0-is
           c.as_slice-in-Ok-Line.ensures.value e.known
-          c.in_default.ensures.told;
+          c.in_default.ensures.answer;
       calls = omega (arith, short, e.counts.0, c.lines.invariant.calls);
       bytes = omega (arith, short, e.counts.1, c.lines.invariant.bytes);
       same_reader = search rules;

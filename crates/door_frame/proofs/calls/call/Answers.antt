@@ -41,7 +41,7 @@ returns g c =
     record {
       noted = noted c.args.notice _ h notes (berth_on g.S.Parking.at _ c.note.ensures.table)
           (ap (λ (w : Guarded g.row.D.Denot). w.state) same) (c.note.ensures.stays _ c.inside.invariant.0);
-      told = subst (λ q. IsCounted c.args.notice (q (called_on c.args.notice)) c.book_calls.result)
+      answer = subst (λ q. IsCounted c.args.notice (q (called_on c.args.notice)) c.book_calls.result)
           (listed_in_hand (ap (λ (w : Guarded g.row.D.Denot). w.book) same) c.inside.invariant c.inside.view_is)
-          c.book_calls.ensures.told;
+          c.book_calls.ensures.answer;
     }

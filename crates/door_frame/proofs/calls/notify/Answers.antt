@@ -9,8 +9,8 @@ use Rattle.door_frame.proofs.calls.notify.Goals as goal
 pub returns-then-not-queue-clause-lists : goal.returns-then-not-queue-clause-lists
 returns-then-not-queue-clause-lists g c = taken_none _ _ (none-listed _ c.if-not-queue.ensures.lists)
 
-pub returns-then-not-queue-clause-told : goal.returns-then-not-queue-clause-told
-returns-then-not-queue-clause-told g c = c.if-not-queue.ensures.lists
+pub returns-then-not-queue-clause-answer : goal.returns-then-not-queue-clause-answer
+returns-then-not-queue-clause-answer g c = c.if-not-queue.ensures.lists
 
 pub returns-then-not-queue-clause-front : goal.returns-then-not-queue-clause-front
 returns-then-not-queue-clause-front g c = nobody_called (none-listed _ c.if-not-queue.ensures.front) refl
@@ -27,6 +27,6 @@ returns g c =
       place = n.place;
       «data» = n.data_are;
       lists = r.1;
-      told = ((λ _. some), λ _. refl);
+      answer = ((λ _. some), λ _. refl);
       front = r.0;
     }

@@ -10,8 +10,8 @@ use Rattle.door_frame.proofs.calls.signal_leave_to.Goals as goal
 pub leave_to-out-requires-clause-rest : goal.leave_to-out-requires-clause-rest
 leave_to-out-requires-clause-rest g c = c.requires.rest (none-listed _ c.if-not-queue.ensures.lists)
 
-pub returns-then-not-queue-clause-told : goal.returns-then-not-queue-clause-told
-returns-then-not-queue-clause-told g c = c.if-not-queue.ensures.lists
+pub returns-then-not-queue-clause-answer : goal.returns-then-not-queue-clause-answer
+returns-then-not-queue-clause-answer g c = c.if-not-queue.ensures.lists
 
 pub returns-then-not-queue-clause-front : goal.returns-then-not-queue-clause-front
 returns-then-not-queue-clause-front g c =
@@ -42,7 +42,7 @@ returns g c =
     record {
       of = o.of;
       place = o.place;
-      told = ((λ _. some), λ _. refl);
+      answer = ((λ _. some), λ _. refl);
       front = o.front;
       next = next_handing true c.args.condition _ _ _ _ h some book c.pass-next.ensures.next is;
     }

@@ -30,29 +30,29 @@ lines-init g c =
       write_mark = search rules;
     }
 
-pub returns-in-Err-Failed-clause-told : goal.returns-in-Err-Failed-clause-told
-returns-in-Err-Failed-clause-told g c =
+pub returns-in-Err-Failed-clause-answer : goal.returns-in-Err-Failed-clause-answer
+returns-in-Err-Failed-clause-answer g c =
     let e = c.in-Err-Failed.ensures in
     running.exit_failed c.lines.invariant.goes
     (g.R.Read.remaining (reader_inside c.read_line.new.reader)) c.read_line.new.line.items
     e.one e.short e.within c.in-Err-Failed.field-0 c.in-Err-Failed.field-0-is e.known
 
-pub returns-in-Err-TooLong-clause-told : goal.returns-in-Err-TooLong-clause-told
-returns-in-Err-TooLong-clause-told g c =
+pub returns-in-Err-TooLong-clause-answer : goal.returns-in-Err-TooLong-clause-answer
+returns-in-Err-TooLong-clause-answer g c =
     let e = c.in-Err-TooLong.ensures in
     running.exit_long c.lines.invariant.goes
     (g.R.Read.remaining (reader_inside c.read_line.new.reader)) c.read_line.new.line.items
     e.one e.short e.within c.in-Err-TooLong.field-0 c.in-Err-TooLong.field-0-is e.known e.fits
 
-pub returns-in-Err-TooMuch-clause-told : goal.returns-in-Err-TooMuch-clause-told
-returns-in-Err-TooMuch-clause-told g c =
+pub returns-in-Err-TooMuch-clause-answer : goal.returns-in-Err-TooMuch-clause-answer
+returns-in-Err-TooMuch-clause-answer g c =
     let e = c.in-Err-TooMuch.ensures in
     running.exit_much c.lines.invariant.goes
     (g.R.Read.remaining (reader_inside c.read_line.new.reader)) c.read_line.new.line.items
     e.one e.short e.within c.in-Err-TooMuch.field-0 c.in-Err-TooMuch.field-0-is e.known e.fits
 
-pub returns-in-Ok-Last-clause-told : goal.returns-in-Ok-Last-clause-told
-returns-in-Ok-Last-clause-told g c =
+pub returns-in-Ok-Last-clause-answer : goal.returns-in-Ok-Last-clause-answer
+returns-in-Ok-Last-clause-answer g c =
     let e = c.in-Ok-Last.ensures in
     running.exit_end c.lines.invariant.goes
     (g.R.Read.remaining (reader_inside c.read_line.new.reader)) c.read_line.new.line.items
@@ -60,8 +60,8 @@ returns-in-Ok-Last-clause-told g c =
     (nil_from_length c.read_line.new.line.items (grind (arith, nat_tests, c.is_empty.ensures, c.if-is_empty.true)))
     c.end_before.ensures.value
 
-pub returns-in-Ok-Last-2-clause-told : goal.returns-in-Ok-Last-2-clause-told
-returns-in-Ok-Last-2-clause-told g c =
+pub returns-in-Ok-Last-2-clause-answer : goal.returns-in-Ok-Last-2-clause-answer
+returns-in-Ok-Last-2-clause-answer g c =
     let e = c.in-Ok-Last.ensures in
     running.exit_last c.lines.invariant.goes
     (g.R.Read.remaining (reader_inside c.read_line.new.reader)) c.read_line.new.line.items
@@ -71,8 +71,8 @@ returns-in-Ok-Last-2-clause-told g c =
     (λ z. absurd (grind (arith, nat_tests, c.is_empty.ensures, c.if-is_empty.false, ap length z)))
     c.one_line.ensures.of c.one_line.ensures.memory
 
-pub returns-in-Err-clause-told : goal.returns-in-Err-clause-told
-returns-in-Err-clause-told g c =
+pub returns-in-Err-clause-answer : goal.returns-in-Err-clause-answer
+returns-in-Err-clause-answer g c =
     let e = c.in-Ok-Line.ensures in
     running.exit_fault c.lines.invariant.goes
     (g.R.Read.remaining (reader_inside c.read_line.new.reader)) c.read_line.new.line.items

@@ -28,7 +28,7 @@ returns-then-is_offered-clause-trace g c =
     let some =
     somebody_waits _
     (one_waits _ _ _ _ c.enter-inside.ensures.rest offered (ap (λ lists. lists 0) (g.met.M.Monitor.keeps_lists _ _))) in
-    let passed = Exits-resumed c.signal_leave-out.ensures.front (c.signal_leave-out.ensures.told.1 some)
+    let passed = Exits-resumed c.signal_leave-out.ensures.front (c.signal_leave-out.ensures.answer.1 some)
     (g.met.M.Monitor.keeps_place _ _ ∙ c.enter-inside.ensures.place)
     (g.met.M.Monitor.takes_data _ _ ∙ c.answer-first.ensures.after) (g.met.M.Monitor.keeps_front _ _) in
     came_second _ passed.to _ (rw offered at c.enter-inside.ensures.front) passed.chooses passed.is

@@ -9,5 +9,5 @@ rows-preserved g c = record {
   kept = front_more c.args.self.now.chart.rows.items c.rows.self.chart.rows.items c.add_row.new.self.chart.rows.items
       (command_of c.as_slice.result.now)
       c.rows.invariant.kept c.in_ok-add_row.ensures.row;
-  told = search rules;
+  answered = search rules;
 }

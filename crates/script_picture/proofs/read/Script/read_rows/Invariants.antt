@@ -7,5 +7,5 @@ abbrev pub invariant-rows : goal.invariant-rows
 invariant-rows g l = record {
   failed : has_read_failed l.reader ≡ has_read_failed l.initial.reader;
   kept : IsInFront l.initial.self.chart.rows.items l.self.chart.rows.items;
-  told : IsRead l.initial.self → IsRead l.self;
+  answered : IsRead l.initial.self → IsRead l.self;
 }

@@ -17,7 +17,7 @@ returns-then-not-has_stream-clause-trace g c =
 pub returns-then-not-has_stream-2-clause-trace : goal.returns-then-not-has_stream-2-clause-trace
 returns-then-not-has_stream-2-clause-trace g c =
     let stream = rw c.state.ensures at (c.has_stream.ensures.0 c.if-not-has_stream.false) in
-    let none = rw c.state-2.ensures at (sym c.free.ensures.told ∙ c.if-free-eq0.true) in
+    let none = rw c.state-2.ensures at (sym c.free.ensures.answer ∙ c.if-free-eq0.true) in
     Takes-late c.enter-inside.ensures.front stream none c.wait-inside.ensures.front
     c.enter-inside.ensures.place refl refl (search rules)
     (no_stream c.has_stream-then-free-eq0.ensures c.if-not-has_stream-2.true c.state-then-free-eq0-2.ensures)
@@ -32,7 +32,7 @@ came g c =
     let stream = rw c.state.ensures at (c.has_stream.ensures.0 c.if-not-has_stream.false) in
     elim c.if-free-eq0.branch [
       | then-free-eq0+else-not-has_stream-2 w ↦
-          let none = rw c.state-2.ensures at (sym c.free.ensures.told ∙ w.if-free-eq0.true) in
+          let none = rw c.state-2.ensures at (sym c.free.ensures.answer ∙ w.if-free-eq0.true) in
           let stays =
           rw w.state-then-free-eq0-2.ensures at (w.has_stream-then-free-eq0.ensures.0 w.if-not-has_stream-2.false) in
           rw w.inside-is
@@ -42,7 +42,7 @@ came g c =
           (stays, w.wait-inside.ensures.ready (omega arith)))
       | else-free-eq0 w ↦
           let some : free_count (g.M.Monitor.data_in c.enter-inside.result) ≢ 0 =
-          λ none. w.if-free-eq0.false ((rw c.state-2.ensures at c.free.ensures.told) ∙ none) in
+          λ none. w.if-free-eq0.false ((rw c.state-2.ensures at c.free.ensures.answer) ∙ none) in
           rw w.inside-is
           (Came-at_once g.M.Monitor c.enter-inside.ensures.of c.enter-inside.ensures.place c.enter-inside.ensures.front
           (λ must. some must.1) (stream, PoolReady-idle c.enter-inside.ensures.rest some))

@@ -39,7 +39,7 @@ returns c =
       of = λ g o. histories.IsOf-same _ _ _ (sound.parts s.room s.room refl s.signallers s.called refl)
           (histories.after_broadcast-taken b c.args.place c.args.condition _ h m s.took g
           (histories.IsOf-same _ b g (sym c.self.view_is) o));
-      told = count_from_yields_List c.on.result c.count-called.result c.count-called.ensures.ran
+      answer = count_from_yields_List c.on.result c.count-called.result c.count-called.ensures.ran
           (YieldsList-from_first (λ x. x) (λ rest. rest) (list_at c.self.inside.chains c.args.condition) c.on.ensures)
           ∙ chain-length c.args.condition c.self.inside.chains below
           ∙ priorities.length-priorities_on b _ c.args.condition c.self.view_is c.self.invariant;

@@ -44,7 +44,7 @@ returns c =
             of = λ h o. histories.IsOf-same _ _ _ (sound.parts s.room s.room refl s.signallers s.called refl)
                 (histories.after_notify-taken b c.args.place c.args.condition f.1.first.place _ r h
                 (histories.IsOf-same _ b h (sym c.self.view_is) o) m);
-            told = ((λ t. priorities.priorities_on-taken r c.self.view_is), (λ some. f.0));
+            answer = ((λ t. priorities.priorities_on-taken r c.self.view_is), (λ some. f.0));
             nobody = λ none. absurd (priorities.priorities_on-taken r c.self.view_is none);
             inside = ap (λ (v : Contents). v.turn) c.self.view_is ∙ c.requires.inside;
             priorities = λ d. priorities.priorities_on-after b.signallers c.self.view_is r d;
@@ -56,7 +56,7 @@ returns c =
             of = λ h o. histories.IsOf-same b _ _ (sym n.same)
                 (histories.after_notify-nobody b c.args.place c.args.condition h n.nobody
                 (histories.IsOf-same _ b h (sym c.self.view_is) o));
-            told = (
+            answer = (
               (λ t. let no : true ≡ false = sym t ∙ none.0 in absurd (cc)),
               (λ some. absurd (some (priorities.no_priority_on c.args.condition c.self.view_is n.nobody))),
             );

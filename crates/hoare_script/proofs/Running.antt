@@ -23,11 +23,11 @@ use Rattle.wait_book.specs.Contents.{Contents}
 use Rattle.hoare_script.specs.declared.fault.ScriptFault.{ScriptFault}
 use Rattle.hoare_script.specs.declared.fault.ScriptFault.TheVariants as faults
 use Rattle.hoare_script.specs.declared.runs.TheConstants.{MOST_BYTES}
-use Rattle.hoare_script.specs.Scripts.{State, Start, Running, Told, Ending, Outcome, told, told_from, prepend, stop}
+use Rattle.hoare_script.specs.Scripts.{State, Start, Running, Output, Ending, Outcome, output, output_from, prepend, stop}
 use Rattle.hoare_script.specs.Scripts.{done, then_on, one_line, at_end, at_cut}
 use Rattle.hoare_script.specs.Runs.{IsAt, Follows, IsGoodHeader, OnFault, Tells, Verdict, Whole}
 use Rattle.hoare_script.proofs.Answering.{one_line-number}
-use Rattle.hoare_script.proofs.Scripts.{told_from-line, told_from-long_line, told_from-past_limit, told_from-end}
+use Rattle.hoare_script.proofs.Scripts.{output_from-line, output_from-long_line, output_from-past_limit, output_from-end}
 
 -- the state of a run: of the input t0 it has t left, and what it wrote and will write is what `told` has of the input
 pub record Going (number room : ℕ) (opened : Option Contents) (old now : Option (List ℕ)) (t0 t : List ℕ) : Type 0 where
@@ -37,7 +37,7 @@ pub record Going (number room : ℕ) (opened : Option Contents) (old now : Optio
   pub text : AtLine number read t0 t
   pub at : IsAt opened state
   pub appends : Appends old now written
-  pub goes : (e : Ending) (x : List ℕ) → told e (read ++ x) ≡ prepend written (told_from e state number room x)
+  pub goes : (e : Ending) (x : List ℕ) → output e (read ++ x) ≡ prepend written (output_from e state number room x)
   pub fresh : state ≡ Start → (written ≡ []) × (number ≡ 1)
   pub counted : length read + room ≡ MOST_BYTES
 
@@ -56,11 +56,11 @@ Going-start old t = record {
 }
 
 -- the script ends with a fault, and nothing more is written
-Whole-fault : (old now new : Option (List ℕ)) (w : List ℕ) (t : Told) (f : ScriptFault)
+Whole-fault : (old now new : Option (List ℕ)) (w : List ℕ) (t : Output) (f : ScriptFault)
     → Appends old now w → Appends now new [] → t ≡ prepend w (stop f) → Whole t old new (Some f)
 Whole-fault old now new w t f p q e = (
-  subst (λ (v : Told). Appends old new v.written) (sym e) (Appends-trans old now new w [] p q),
-  ap (λ (v : Told). v.fault) e,
+  subst (λ (v : Output). Appends old new v.written) (sym e) (Appends-trans old now new w [] p q),
+  ap (λ (v : Output). v.fault) e,
 )
 
 -- what a line wrote, and the state of the script after it
@@ -70,7 +70,7 @@ IsOkAnd-parts (Ok p) P h = (p, refl, h)
 IsOkAnd-parts (Err f) P h = absurd h
 
 -- to prepend two texts is to prepend both as one text
-prepend-prepend : (w p : List ℕ) (t : Told) → prepend w (prepend p t) ≡ prepend (w ++ p) t
+prepend-prepend : (w p : List ℕ) (t : Output) → prepend w (prepend p t) ≡ prepend (w ++ p) t
 prepend-prepend w p t = ap (λ (v : List ℕ). record { written = v; fault = t.fault }) (sym (append_assoc w p t.written))
 
 -- a state in which there is a book isn't the first
@@ -87,23 +87,23 @@ at_end-some s i (b ∷ bs) n = refl
 module _ (number room : ℕ) (opened : Option Contents) (old now : Option (List ℕ)) (t0 t : List ℕ)
     (g : Going number room opened old now t0 t) where
   -- the rest of `told`, from the state of the run on
-  told-rest : (e : Ending) → told e t0 ≡ prepend g.written (told_from e g.state number room t)
-  told-rest e = ap (told e) g.text.whole ∙ g.goes e t
+  output-rest : (e : Ending) → output e t0 ≡ prepend g.written (output_from e g.state number room t)
+  output-rest e = ap (output e) g.text.whole ∙ g.goes e t
 
   -- the rest of the script is a fault, and nothing more is written
   Whole-stop : (new : Option (List ℕ)) (f : ScriptFault) → Appends now new []
-      → told_from at_end g.state number room t ≡ stop f → Whole (told at_end t0) old new (Some f)
+      → output_from at_end g.state number room t ≡ stop f → Whole (output at_end t0) old new (Some f)
   Whole-stop new f a e =
-      Whole-fault old now new g.written (told at_end t0) f g.appends a (told-rest at_end ∙ ap (prepend g.written) e)
+      Whole-fault old now new g.written (output at_end t0) f g.appends a (output-rest at_end ∙ ap (prepend g.written) e)
 
   -- the answers to the lines before are what was written
-  told-before : (told at_cut g.read).written ≡ g.written
-  told-before =
-      let none : told_from at_cut g.state number room [] ≡ stop faults.ReadFault =
-      told_from-end at_cut g.state number room [] (λ k d h. absurd (omega arith)) (omega arith) (omega arith) in
-      let all : told at_cut g.read ≡ prepend g.written (stop faults.ReadFault) =
-      ap (told at_cut) (sym (append-nil g.read)) ∙ g.goes at_cut [] ∙ ap (prepend g.written) none in
-      ap (λ (v : Told). v.written) all ∙ append-nil g.written
+  output-before : (output at_cut g.read).written ≡ g.written
+  output-before =
+      let none : output_from at_cut g.state number room [] ≡ stop faults.ReadFault =
+      output_from-end at_cut g.state number room [] (λ k d h. absurd (omega arith)) (omega arith) (omega arith) in
+      let all : output at_cut g.read ≡ prepend g.written (stop faults.ReadFault) =
+      ap (output at_cut) (sym (append-nil g.read)) ∙ g.goes at_cut [] ∙ ap (prepend g.written) none in
+      ap (λ (v : Output). v.written) all ∙ append-nil g.written
 
   -- the line was too long
   Tells-long_line : (l x : List ℕ) (b : ℕ) → NoNewline l → b ≢ 10 → length l ≡ LONGEST_LINE → LONGEST_LINE < room
@@ -111,7 +111,7 @@ module _ (number room : ℕ) (opened : Option Contents) (old now : Option (List 
       → Tells t0 x old now (Err (faults.LineTooLong number))
   Tells-long_line l x b n d h r e = (
     Whole-stop now (faults.LineTooLong number) (Appends-nil now)
-        (ap (told_from at_end g.state number room) e ∙ told_from-long_line at_end g.state number room l b x n d h r),
+        (ap (output_from at_end g.state number room) e ∙ output_from-long_line at_end g.state number room l b x n d h r),
     after_lines-long_line g.text l x b h e,
   )
 
@@ -124,7 +124,7 @@ module _ (number room : ℕ) (opened : Option Contents) (old now : Option (List 
       let count : length consumed ≡ MOST_BYTES + 1 =
       omega (arith, length-append g.read (l ++ b ∷ []), length-append l (b ∷ []), g.counted, r) in (
         Whole-stop now faults.TooMuch (Appends-nil now)
-            (ap (told_from at_end g.state number room) e ∙ told_from-past_limit at_end g.state number room l b x n h r),
+            (ap (output_from at_end g.state number room) e ∙ output_from-past_limit at_end g.state number room l b x n h r),
         sym (ap (drop (MOST_BYTES + 1)) bytes ∙ drop-read (MOST_BYTES + 1) consumed x count),
       )
 
@@ -133,20 +133,20 @@ module _ (number room : ℕ) (opened : Option Contents) (old now : Option (List 
       → Tells t0 x old now (Err faults.ReadFault)
   Tells-cut l x n h r e =
       let bytes : t0 ≡ (g.read ++ l) ++ x = g.text.whole ∙ ap (λ v. g.read ++ v) e ∙ sym (append_assoc g.read l x) in
-      let fault : told at_cut (g.read ++ l) ≡ prepend g.written (stop faults.ReadFault) =
-      g.goes at_cut l ∙ ap (prepend g.written) (told_from-end at_cut g.state number room l n h r) in (
+      let fault : output at_cut (g.read ++ l) ≡ prepend g.written (stop faults.ReadFault) =
+      g.goes at_cut l ∙ ap (prepend g.written) (output_from-end at_cut g.state number room l n h r) in (
         (
           g.read ++ l,
           bytes,
-          Whole-fault old now now g.written (told at_cut (g.read ++ l)) faults.ReadFault g.appends
+          Whole-fault old now now g.written (output at_cut (g.read ++ l)) faults.ReadFault g.appends
               (Appends-nil now) fault,
         ),
         (g.read ++ l, bytes),
       )
 
   -- a write fails in the middle of a line's answer
-  Tells-break : (new : Option (List ℕ)) (x : List ℕ) (out : Outcome) (go : State → Told)
-      → told_from at_end g.state number room t ≡ then_on out go → x ≡ after_lines number t0
+  Tells-break : (new : Option (List ℕ)) (x : List ℕ) (out : Outcome) (go : State → Output)
+      → output_from at_end g.state number room t ≡ then_on out go → x ≡ after_lines number t0
       → IsOkAnd out (λ p. AppendsPrefix now new p.0) → Tells t0 x old new (Err faults.WriteFault)
   Tells-break new x out go e b o =
       let q : (p : List ℕ × State) × (out ≡ Ok p) × AppendsPrefix now new p.0 =
@@ -156,9 +156,9 @@ module _ (number room : ℕ) (opened : Option Contents) (old now : Option (List 
       let r : List ℕ = (go q.0.1).written in
       let n : ℕ = q.2.0 in
       let next : number ≡ suc (number - 1) = omega (arith, g.text.some) in
-      let all : (told at_end t0).written ≡ w ++ (p ++ r) =
-      ap (λ (v : Told). v.written) (told-rest at_end ∙ ap (prepend w) (e ∙ ap (λ (v : Outcome). then_on v go) q.1)) in
-      let some : take (length w + n) (told at_end t0).written ≡ w ++ take n p =
+      let all : (output at_end t0).written ≡ w ++ (p ++ r) =
+      ap (λ (v : Output). v.written) (output-rest at_end ∙ ap (prepend w) (e ∙ ap (λ (v : Outcome). then_on v go) q.1)) in
+      let some : take (length w + n) (output at_end t0).written ≡ w ++ take n p =
       ap (take (length w + n)) all ∙ sym (append-take_prefix w p r n (omega (arith, q.2.1))) in (
         (
           number - 1,
@@ -167,7 +167,7 @@ module _ (number room : ℕ) (opened : Option Contents) (old now : Option (List 
             length w + n,
             g.text.whole ∙ ap (λ v. g.read ++ v) g.text.behind,
             b ∙ ap (λ i. after_lines i t0) next,
-            omega (arith, ap length told-before),
+            omega (arith, ap length output-before),
             omega (arith, ap length all, length-append w (p ++ r), length-append p r, q.2.1),
             subst (λ (v : List ℕ). Appends old new v) (sym some)
                 (Appends-trans old now new w (take n p) g.appends q.2.2),
@@ -177,8 +177,8 @@ module _ (number room : ℕ) (opened : Option Contents) (old now : Option (List 
       )
 
   -- a line's fault
-  Tells-fault : (new : Option (List ℕ)) (l x : List ℕ) (go : State → Told) (f : ScriptFault)
-      → told_from at_end g.state number room t ≡ then_on (one_line g.state number l) go → x ≡ after_lines number t0
+  Tells-fault : (new : Option (List ℕ)) (l x : List ℕ) (go : State → Output) (f : ScriptFault)
+      → output_from at_end g.state number room t ≡ then_on (one_line g.state number l) go → x ≡ after_lines number t0
       → OnFault (one_line g.state number l) now new f → (f ≡ faults.Memory → (g.state ≡ Start) × IsGoodHeader l)
       → ((lines : List (List ℕ)) × (slice_split is_newline t ≡ l ∷ lines)) → Tells t0 x old new (Err f)
   Tells-fault new l x go faults.NoHeader e b o m a = absurd o
@@ -206,39 +206,39 @@ module _ (number room : ℕ) (opened : Option Contents) (old now : Option (List 
 
   -- the answer to the last line is written
   Tells-end : (new : Option (List ℕ)) (x : List ℕ) (out : Outcome) (P : State → Type 0)
-      → told_from at_end g.state number room t ≡ then_on out (λ _. done) → x ≡ []
+      → output_from at_end g.state number room t ≡ then_on out (λ _. done) → x ≡ []
       → IsOkAnd out (λ p. Appends now new p.0 × P p.1)
       → Tells t0 x old new (Ok tt)
   Tells-end new x out P e z o =
       let q : (p : List ℕ × State) × (out ≡ Ok p) × (Appends now new p.0 × P p.1) =
       IsOkAnd-parts out (λ p. Appends now new p.0 × P p.1) o in
-      let all : told at_end t0 ≡ prepend g.written (prepend q.0.0 done) =
-      told-rest at_end ∙ ap (prepend g.written) (e ∙ ap (λ (v : Outcome). then_on v (λ _. done)) q.1) in
-      let text : g.written ++ q.0.0 ≡ (told at_end t0).written =
-      ap (λ v. g.written ++ v) (sym (append-nil q.0.0)) ∙ sym (ap (λ (v : Told). v.written) all) in (
+      let all : output at_end t0 ≡ prepend g.written (prepend q.0.0 done) =
+      output-rest at_end ∙ ap (prepend g.written) (e ∙ ap (λ (v : Outcome). then_on v (λ _. done)) q.1) in
+      let text : g.written ++ q.0.0 ≡ (output at_end t0).written =
+      ap (λ v. g.written ++ v) (sym (append-nil q.0.0)) ∙ sym (ap (λ (v : Output). v.written) all) in (
         (
           subst (λ (v : List ℕ). Appends old new v) text (Appends-trans old now new g.written q.0.0 g.appends q.2.0),
-          ap (λ (v : Told). v.fault) all,
+          ap (λ (v : Output). v.fault) all,
         ),
         z,
       )
 
   -- nothing follows the last whole line
-  told_from-nothing : t ≡ [] → told_from at_end g.state number room t ≡ cond (eqb number 1) (stop faults.NoHeader) done
-  told_from-nothing e =
-      ap (told_from at_end g.state number room) e
-      ∙ told_from-end at_end g.state number room [] (λ k d h. absurd (omega arith)) (omega arith) (omega arith)
+  output_from-nothing : t ≡ [] → output_from at_end g.state number room t ≡ cond (eqb number 1) (stop faults.NoHeader) done
+  output_from-nothing e =
+      ap (output_from at_end g.state number room) e
+      ∙ output_from-end at_end g.state number room [] (λ k d h. absurd (omega arith)) (omega arith) (omega arith)
 
   -- the input is empty, or ends after a whole line
   Tells-nothing : (x : List ℕ) (empty : Bool)
-      → told_from at_end g.state number room t ≡ cond empty (stop faults.NoHeader) done → x ≡ []
+      → output_from at_end g.state number room t ≡ cond empty (stop faults.NoHeader) done → x ≡ []
       → Tells t0 x old now (cond empty (Err faults.NoHeader) (Ok tt))
   Tells-nothing x true e z = (Whole-stop now faults.NoHeader (Appends-nil now) e, z)
   Tells-nothing x false e z =
-      let all : told at_end t0 ≡ prepend g.written done = told-rest at_end ∙ ap (prepend g.written) e in
-      let text : g.written ≡ (told at_end t0).written =
-      sym (append-nil g.written) ∙ sym (ap (λ (v : Told). v.written) all) in
-      ((subst (λ (v : List ℕ). Appends old now v) text g.appends, ap (λ (v : Told). v.fault) all), z)
+      let all : output at_end t0 ≡ prepend g.written done = output-rest at_end ∙ ap (prepend g.written) e in
+      let text : g.written ≡ (output at_end t0).written =
+      sym (append-nil g.written) ∙ sym (ap (λ (v : Output). v.written) all) in
+      ((subst (λ (v : List ℕ). Appends old now v) text g.appends, ap (λ (v : Output). v.fault) all), z)
 
   -- the answer to a whole line is written
   Going-line : (d : Contents) (new : Option (List ℕ)) (l x : List ℕ) → NoNewline l → length l ≤ LONGEST_LINE
@@ -257,10 +257,10 @@ module _ (number room : ℕ) (opened : Option Contents) (old now : Option (List 
         at = q.2.1;
         appends = Appends-trans old now new g.written q.0.0 g.appends q.2.0;
         goes = λ f y.
-            ap (told f) (append-line g.read l 10 y) ∙ g.goes f (l ++ 10 ∷ y)
-            ∙ ap (prepend g.written) (told_from-line f g.state number room l y n h r
-            ∙ ap (λ (v : Outcome). then_on v (λ s. told_from f s (number + 1) (room - (length l + 1)) y)) q.1)
-            ∙ prepend-prepend g.written q.0.0 (told_from f q.0.1 (number + 1) (room - (length l + 1)) y);
+            ap (output f) (append-line g.read l 10 y) ∙ g.goes f (l ++ 10 ∷ y)
+            ∙ ap (prepend g.written) (output_from-line f g.state number room l y n h r
+            ∙ ap (λ (v : Outcome). then_on v (λ s. output_from f s (number + 1) (room - (length l + 1)) y)) q.1)
+            ∙ prepend-prepend g.written q.0.0 (output_from f q.0.1 (number + 1) (room - (length l + 1)) y);
         fresh = λ z. let bad : Some d ≡ None = IsAt-start (Some d) q.0.1 q.2.1 z in absurd (cc);
         counted = omega (arith, length-append g.read line, length-append l (10 ∷ []), g.counted, r);
       }
@@ -316,13 +316,13 @@ module _ {k0 k old now : Option (List ℕ)} {number room : ℕ} {opened : Option
       (λ t0 t x g b.
       subst (λ (v : Verdict). Tells t0 x old now v) (sym is)
       (Tells-nothing number room opened old now t0 t g x (eqb number 1)
-      (told_from-nothing number room opened old now t0 t g (b.0 ∙ z)) b.1)) r
+      (output_from-nothing number room opened old now t0 t g (b.0 ∙ z)) b.1)) r
 
   -- what `told_from` has of the last line
-  told_from-last : (s : State) (t : List ℕ) → t ≡ l → (l ≡ [] → ⊥)
-      → told_from at_end s number room t ≡ then_on (one_line s number l) (λ _. done)
-  told_from-last s t e z =
-      ap (told_from at_end s number room) e ∙ told_from-end at_end s number room l one short within
+  output_from-last : (s : State) (t : List ℕ) → t ≡ l → (l ≡ [] → ⊥)
+      → output_from at_end s number room t ≡ then_on (one_line s number l) (λ _. done)
+  output_from-last s t e z =
+      ap (output_from at_end s number room) e ∙ output_from-end at_end s number room l one short within
       ∙ at_end-some s number l z
 
   last_line : (n : Option (List ℕ)) (d : Option Contents) (res : Result (Unit {0}) ScriptFault) (t0 t x : List ℕ)
@@ -331,9 +331,9 @@ module _ {k0 k old now : Option (List ℕ)} {number room : ℕ} {opened : Option
       → (res ≡ Err faults.Memory → (g.state ≡ Start) × IsGoodHeader l) → Tells t0 x old n res
   last_line n d (Ok tt) t0 t x g e y z o c =
       Tells-end number room opened old now t0 t g n x (one_line g.state number l) (IsAt d)
-      (told_from-last g.state t e z) y o
+      (output_from-last g.state t e z) y o
   last_line n d (Err f) t0 t x g e y z o c =
-      Tells-fault number room opened old now t0 t g n l x (λ _. done) f (told_from-last g.state t e z)
+      Tells-fault number room opened old now t0 t g n l x (λ _. done) f (output_from-last g.state t e z)
       (after_lines-last g.text l x one e y) o (λ q. c (ap Err q))
       ([], ap (slice_split is_newline) e ∙ slice_split_none is_newline l one)
 
@@ -358,8 +358,8 @@ module _ {k0 k old now : Option (List ℕ)} {number room : ℕ} {opened : Option
       ended (λ text left. Tells text left old n (Err bad)) (Ok f) (Ok how.Line) (ap Ok e)
       (λ t0 t x g b.
       Tells-fault number room opened old now t0 t g n l x
-      (λ v. told_from at_end v (number + 1) (room - (length l + 1)) x) bad
-      (ap (told_from at_end g.state number room) b ∙ told_from-line at_end g.state number room l x one short fits)
+      (λ v. output_from at_end v (number + 1) (room - (length l + 1)) x) bad
+      (ap (output_from at_end g.state number room) b ∙ output_from-line at_end g.state number room l x one short fits)
       (after_lines-line g.text l x one b)
       (subst (λ (v : List ℕ). OnFault (one_line g.state number v) now n bad) i (o g.state g.at))
       (λ q. subst (λ (v : List ℕ). (g.state ≡ Start) × IsGoodHeader v) i (c g.state g.at q))

@@ -11,10 +11,10 @@ use Rattle.wait_book.specs.Contents.{Contents, IsOf, make_refusal}
 use Rattle.hoare_script.specs.declared.fault.ScriptFault.{ScriptFault}
 use Rattle.hoare_script.specs.declared.fault.ScriptFault.TheVariants as faults
 use Rattle.hoare_script.specs.Lines.{header_of, sizes_in}
-use Rattle.hoare_script.specs.Scripts.{State, Start, Running, Outcome, Told, told, at_end, at_cut}
+use Rattle.hoare_script.specs.Scripts.{State, Start, Running, Outcome, Output, output, at_end, at_cut}
 
 -- all that t has as written is appended, and the fault is that of t
-abbrev pub Whole : Told → Option (List ℕ) → Option (List ℕ) → Option ScriptFault → Type 0
+abbrev pub Whole : Output → Option (List ℕ) → Option (List ℕ) → Option ScriptFault → Type 0
 Whole t old new f = Appends old new t.written × (t.fault ≡ f)
 
 -- after i lines of text the next line is read: the answers to the i lines are written, and not all answers
@@ -22,8 +22,8 @@ abbrev pub BreaksOff : ℕ → List ℕ → List ℕ → Option (List ℕ) → O
 BreaksOff i text left old new =
     (read : List ℕ) × (n : ℕ)
     × (text ≡ read ++ after_lines i text) × (left ≡ after_lines (suc i) text)
-    × (length (told at_cut read).written ≤ n) × (n < length (told at_end text).written)
-    × Appends old new (take n (told at_end text).written)
+    × (length (output at_cut read).written ≤ n) × (n < length (output at_end text).written)
+    × Appends old new (take n (output at_end text).written)
 
 -- a line is a header, with as many places, conditions and Mesa conditions as a monitor may have
 abbrev pub IsGoodHeader : List ℕ → Type 0
@@ -41,15 +41,15 @@ Verdict = Result (Unit {0}) ScriptFault
 
 -- what a run over text writes, by its result, if it leaves `left` of the text unread
 abbrev pub Writes : List ℕ → List ℕ → Option (List ℕ) → Option (List ℕ) → Verdict → Type 0
-Writes text left old new (Ok u) = Whole (told at_end text) old new None
+Writes text left old new (Ok u) = Whole (output at_end text) old new None
 -- the answers to the lines that were read whole
 Writes text left old new (Err faults.ReadFault) =
-    (read : List ℕ) × (text ≡ read ++ left) × Whole (told at_cut read) old new (Some faults.ReadFault)
+    (read : List ℕ) × (text ≡ read ++ left) × Whole (output at_cut read) old new (Some faults.ReadFault)
 Writes text left old new (Err faults.WriteFault) = (i : ℕ) × BreaksOff i text left old new
 -- nothing, and the first line is a good header: it alone takes memory, and a bad header is returned as its own fault
 Writes text left old new (Err faults.Memory) = HasGoodHeader text × Appends old new []
 -- the answers to the lines before the fault, which is the fault of the text
-Writes text left old new (Err f) = Whole (told at_end text) old new (Some f)
+Writes text left old new (Err f) = Whole (output at_end text) old new (Some f)
 
 -- what a run leaves unread of a text, by its result: no byte past the one at which the result is fixed is read
 abbrev pub Leaves : List ℕ → List ℕ → Verdict → Type 0

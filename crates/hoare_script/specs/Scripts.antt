@@ -41,26 +41,26 @@ one_line Start i line = header_line i (header_of line)
 one_line (Running h) i line = command_line h i line (command_of line)
 
 -- what a script writes, and the fault that ends it, if there is one
-pub record Told : Type 0 where
+pub record Output : Type 0 where
   pub written : List ℕ
   pub fault : Option ScriptFault
 
-abbrev pub stop : ScriptFault → Told
+abbrev pub stop : ScriptFault → Output
 stop f = record { written = []; fault = Some f }
 
-abbrev pub done : Told
+abbrev pub done : Output
 done = record { written = []; fault = None }
 
-abbrev pub prepend : List ℕ → Told → Told
+abbrev pub prepend : List ℕ → Output → Output
 prepend w t = record { written = w ++ t.written; fault = t.fault }
 
-abbrev pub then_on : Outcome → (State → Told) → Told
+abbrev pub then_on : Outcome → (State → Output) → Output
 then_on (Err f) go = stop f
 then_on (Ok w) go = prepend w.0 (go w.1)
 
 -- what a script writes for the bytes after the last whole line, and its fault; these bytes are line i
 abbrev pub Ending : Type 0
-Ending = State → ℕ → List ℕ → Told
+Ending = State → ℕ → List ℕ → Output
 
 -- the input ends after these bytes
 abbrev pub at_end : Ending
@@ -72,20 +72,20 @@ abbrev pub at_cut : Ending
 at_cut s i last = stop faults.ReadFault
 
 -- whole lines, and the bytes after them; over is true if there are bytes past the limit
-abbrev pub told_lines : Ending → Bool → State → ℕ → List (List ℕ) → Told
-told_lines e over s i [] = done
-told_lines e over s i (last ∷ []) =
+abbrev pub output_of_lines : Ending → Bool → State → ℕ → List (List ℕ) → Output
+output_of_lines e over s i [] = done
+output_of_lines e over s i (last ∷ []) =
     if nat_lt 256 (length last) then stop (faults.LineTooLong i)
     else (if over then stop faults.TooMuch else e s i last)
-told_lines e over s i (line ∷ next ∷ lines) =
+output_of_lines e over s i (line ∷ next ∷ lines) =
     if nat_lt 256 (length line) then stop (faults.LineTooLong i)
-    else then_on (one_line s i line) (λ t. told_lines e over t (i + 1) (next ∷ lines))
+    else then_on (one_line s i line) (λ t. output_of_lines e over t (i + 1) (next ∷ lines))
 
 -- from line i on, with room for this number of bytes
-unfoldable pub told_from : Ending → State → ℕ → ℕ → List ℕ → Told
-told_from e s i room text =
-    told_lines e (nat_lt room (length text)) s i (slice_split is_newline (take room text))
+unfoldable pub output_from : Ending → State → ℕ → ℕ → List ℕ → Output
+output_from e s i room text =
+    output_of_lines e (nat_lt room (length text)) s i (slice_split is_newline (take room text))
 
 -- what a script writes, and its fault
-abbrev pub told : Ending → List ℕ → Told
-told e text = told_from e Start 1 1048576 text
+abbrev pub output : Ending → List ℕ → Output
+output e text = output_from e Start 1 1048576 text

@@ -15,16 +15,16 @@ use Rattle.line_text.specs.Streams.{Reads}
 use Rattle.disk_jobs.specs.declared.fault.ServiceFault.{ServiceFault}
 use Rattle.disk_jobs.specs.declared.fault.ServiceFault.TheVariants as faults
 use Rattle.disk_jobs.specs.JobLists.{JobList}
-use Rattle.disk_jobs.specs.JobTexts.{Ending, Outcome, told, told_from, jobs_of, then_on, one_line, at_end, at_cut}
+use Rattle.disk_jobs.specs.JobTexts.{Ending, Outcome, outcome, outcome_from, jobs_of, then_on, one_line, at_end, at_cut}
 use Rattle.disk_jobs.specs.Readings.{BreaksOff, Gives, GivesTo, Follows, lines_of}
 use Rattle.disk_jobs.proofs.Limits.{one_line-counts}
-use Rattle.disk_jobs.proofs.JobFiles.{told_from-line, told_from-long_line, told_from-end}
+use Rattle.disk_jobs.proofs.JobFiles.{outcome_from-line, outcome_from-long_line, outcome_from-end}
 
 -- how far reading is: of the input t0 it has t left, and what the rest spells depends on the jobs so far
 pub record Going (number : ℕ) (s : Option JobList) (t0 t : List ℕ) : Type 0 where
   pub read : List ℕ
   pub text : AtLine number read t0 t
-  pub goes : (e : Ending) (x : List ℕ) → told e (read ++ x) ≡ told_from e s number x
+  pub goes : (e : Ending) (x : List ℕ) → outcome e (read ++ x) ≡ outcome_from e s number x
 
 -- nothing was read yet
 Going-start : (t : List ℕ) → Going 1 None t t
@@ -41,8 +41,8 @@ no_lines (Some j) h = absurd (omega arith)
 
 module _ (number : ℕ) (s : Option JobList) (t0 t : List ℕ) (g : Going number s t0 t) where
   -- what the text spells is what the rest of it spells, from the line at hand
-  told-rest : (e : Ending) → told e t0 ≡ told_from e s number t
-  told-rest e = ap (told e) g.text.whole ∙ g.goes e t
+  outcome-rest : (e : Ending) → outcome e t0 ≡ outcome_from e s number t
+  outcome-rest e = ap (outcome e) g.text.whole ∙ g.goes e t
 
   -- if the line at hand is good, its number is one more than the number of jobs with it
   lines-read : (j : JobList) (l : List ℕ) → number ≡ lines_of s + 1 → one_line s number l ≡ Ok j
@@ -54,14 +54,14 @@ module _ (number : ℕ) (s : Option JobList) (t0 t : List ℕ) (g : Going number
   breaks l x n h e = (
     g.read ++ l,
     g.text.whole ∙ ap (λ v. g.read ++ v) e ∙ sym (append_assoc g.read l x),
-    g.goes at_cut l ∙ told_from-end at_cut s number l n h,
+    g.goes at_cut l ∙ outcome_from-end at_cut s number l n h,
   )
 
   -- the line was too long
   Gives-long_line : (l x : List ℕ) (b : ℕ) → NoNewline l → b ≢ 10 → length l ≡ LONGEST_LINE → t ≡ l ++ b ∷ x
       → Gives t0 x (Err (faults.BadLine number))
   Gives-long_line l x b n d h e = (
-    told-rest at_end ∙ ap (told_from at_end s number) e ∙ told_from-long_line at_end s number l b x n d h,
+    outcome-rest at_end ∙ ap (outcome_from at_end s number) e ∙ outcome_from-long_line at_end s number l b x n d h,
     inr (after_lines-long_line g.text l x b h e),
   )
 
@@ -73,8 +73,8 @@ module _ (number : ℕ) (s : Option JobList) (t0 t : List ℕ) (g : Going number
     read = g.read ++ (l ++ 10 ∷ []);
     text = AtLine-next g.text l x n e;
     goes = λ f y.
-        ap (told f) (append-line g.read l 10 y) ∙ g.goes f (l ++ 10 ∷ y) ∙ told_from-line f s number l y n h
-        ∙ ap (λ (v : Outcome). then_on v (λ k. told_from f (Some k) (number + 1) y)) o;
+        ap (outcome f) (append-line g.read l 10 y) ∙ g.goes f (l ++ 10 ∷ y) ∙ outcome_from-line f s number l y n h
+        ∙ ap (λ (v : Outcome). then_on v (λ k. outcome_from f (Some k) (number + 1) y)) o;
   }
 
   -- the line at hand is at fault, or there is no memory for its job
@@ -87,15 +87,15 @@ module _ (number : ℕ) (s : Option JobList) (t0 t : List ℕ) (g : Going number
         o.0,
         next.text.whole,
         ap jobs_of (sym (append-nil next.read)) ∙ next.goes at_end []
-            ∙ told_from-end at_end (Some o.0) (number + 1) [] (λ k d i. absurd (omega arith)) (omega arith),
+            ∙ outcome_from-end at_end (Some o.0) (number + 1) [] (λ k d i. absurd (omega arith)) (omega arith),
         o.2,
         after_lines-line g.text l x n e ∙ ap (λ i. after_lines i t0) (lines-read o.0 l c o.1),
       )
   Gives-fault l x (faults.BadLine m) s' n h e c o =
-      let told : jobs_of t0 ≡ Err (faults.BadLine number) =
-      told-rest at_end ∙ ap (told_from at_end s number) e ∙ told_from-line at_end s number l x n h
-      ∙ ap (λ (v : Outcome). then_on v (λ k. told_from at_end (Some k) (number + 1) x)) o.1 in
-      subst (λ (i : ℕ). Gives t0 x (Err (faults.BadLine i))) (sym o.0) (told, inl (after_lines-line g.text l x n e))
+      let outcome : jobs_of t0 ≡ Err (faults.BadLine number) =
+      outcome-rest at_end ∙ ap (outcome_from at_end s number) e ∙ outcome_from-line at_end s number l x n h
+      ∙ ap (λ (v : Outcome). then_on v (λ k. outcome_from at_end (Some k) (number + 1) x)) o.1 in
+      subst (λ (i : ℕ). Gives t0 x (Err (faults.BadLine i))) (sym o.0) (outcome, inl (after_lines-line g.text l x n e))
   Gives-fault l x faults.NoHeader s' n h e c o = absurd o
   Gives-fault l x faults.Spawn s' n h e c o = absurd o
   Gives-fault l x faults.Torn s' n h e c o = absurd o
@@ -108,10 +108,10 @@ module _ (number : ℕ) (s : Option JobList) (t0 t : List ℕ) (g : Going number
       → t ≡ l → x ≡ [] → (l ≡ [] → ⊥) → number ≡ lines_of s + 1 → Follows (one_line s number l) number s' r
       → GivesTo t0 x s' r
   Gives-last l x r s' n h e z some c o =
-      let told-line : jobs_of t0 ≡ one_line s number l =
-      told-rest at_end ∙ ap (told_from at_end s number) e ∙ told_from-end at_end s number l n h
+      let outcome-line : jobs_of t0 ≡ one_line s number l =
+      outcome-rest at_end ∙ ap (outcome_from at_end s number) e ∙ outcome_from-end at_end s number l n h
       ∙ at_end-some s number l some in
-      last r s' told-line o
+      last r s' outcome-line o
     where
       last : (r : Result (Unit {0}) ServiceFault) (s' : Option JobList) → jobs_of t0 ≡ one_line s number l
           → Follows (one_line s number l) number s' r → GivesTo t0 x s' r
@@ -137,10 +137,10 @@ module _ (number : ℕ) (s : Option JobList) (t0 t : List ℕ) (g : Going number
   -- the input ends, before any line or after whole ones
   Gives-end : (x : List ℕ) → t ≡ [] → x ≡ [] → number ≡ lines_of s + 1 → number ≢ 1 → GivesTo t0 x s (Ok tt)
   Gives-end x e z c m =
-      let told-end : jobs_of t0 ≡ at_end s number [] =
-      told-rest at_end ∙ ap (told_from at_end s number) e
-      ∙ told_from-end at_end s number [] (λ k d i. absurd (omega arith)) (omega arith) in
-      end s told-end c
+      let outcome-end : jobs_of t0 ≡ at_end s number [] =
+      outcome-rest at_end ∙ ap (outcome_from at_end s number) e
+      ∙ outcome_from-end at_end s number [] (λ k d i. absurd (omega arith)) (omega arith) in
+      end s outcome-end c
     where
       end : (s' : Option JobList) → jobs_of t0 ≡ at_end s' number [] → number ≡ lines_of s' + 1
           → GivesTo t0 x s' (Ok tt)
@@ -151,8 +151,8 @@ module _ (number : ℕ) (s : Option JobList) (t0 t : List ℕ) (g : Going number
       → Gives t0 x (Err faults.NoHeader)
   Gives-no_header x e z c m =
       let none : s ≡ None = no_lines s (omega arith) in (
-        told-rest at_end ∙ ap (told_from at_end s number) e
-            ∙ told_from-end at_end s number [] (λ k d i. absurd (omega arith)) (omega arith)
+        outcome-rest at_end ∙ ap (outcome_from at_end s number) e
+            ∙ outcome_from-end at_end s number [] (λ k d i. absurd (omega arith)) (omega arith)
             ∙ ap (λ (v : Option JobList). at_end v number []) none,
         z,
       )

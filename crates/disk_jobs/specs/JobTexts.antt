@@ -51,22 +51,22 @@ abbrev pub at_cut : Ending
 at_cut s i last = Err ReadFault
 
 -- what the lines from number i on spell; the last is what follows the last whole line, and e says what becomes of it
-abbrev pub told_lines : Ending → Option JobList → ℕ → List (List ℕ) → Outcome
-told_lines e s i [] = Err NoHeader
-told_lines e s i (last ∷ []) =
+abbrev pub outcome_of_lines : Ending → Option JobList → ℕ → List (List ℕ) → Outcome
+outcome_of_lines e s i [] = Err NoHeader
+outcome_of_lines e s i (last ∷ []) =
     if nat_lt 256 (length last) then Err (BadLine i) else e s i last
-told_lines e s i (line ∷ next ∷ lines) =
+outcome_of_lines e s i (line ∷ next ∷ lines) =
     if nat_lt 256 (length line) then Err (BadLine i)
-    else then_on (one_line s i line) (λ j. told_lines e (Some j) (i + 1) (next ∷ lines))
+    else then_on (one_line s i line) (λ j. outcome_of_lines e (Some j) (i + 1) (next ∷ lines))
 
 -- what a text spells if it begins with line i
-unfoldable pub told_from : Ending → Option JobList → ℕ → List ℕ → Outcome
-told_from e s i text = told_lines e s i (slice_split is_newline text)
+unfoldable pub outcome_from : Ending → Option JobList → ℕ → List ℕ → Outcome
+outcome_from e s i text = outcome_of_lines e s i (slice_split is_newline text)
 
 -- what a text spells if e says what becomes of the bytes after its last whole line
-abbrev pub told : Ending → List ℕ → Outcome
-told e text = told_from e None 1 text
+abbrev pub outcome : Ending → List ℕ → Outcome
+outcome e text = outcome_from e None 1 text
 
 -- the jobs that a text spells, or its earliest fault
 abbrev pub jobs_of : List ℕ → Outcome
-jobs_of text = told at_end text
+jobs_of text = outcome at_end text

@@ -5,12 +5,12 @@ use Rattle.line_text.specs.Line.{after_lines}
 use Rattle.disk_jobs.specs.declared.fault.ServiceFault.{ServiceFault}
 use Rattle.disk_jobs.specs.declared.fault.ServiceFault.TheVariants as faults
 use Rattle.disk_jobs.specs.JobLists.{JobList}
-use Rattle.disk_jobs.specs.JobTexts.{Outcome, jobs_of, told, at_cut}
+use Rattle.disk_jobs.specs.JobTexts.{Outcome, jobs_of, outcome, at_cut}
 
 -- what was read is a beginning of the text with no fault but that it breaks off
 abbrev pub BreaksOff : List ℕ → List ℕ → Type 0
 BreaksOff text left =
-    (read : List ℕ) × (text ≡ read ++ left) × (told at_cut read ≡ Err faults.ReadFault)
+    (read : List ℕ) × (text ≡ read ++ left) × (outcome at_cut read ≡ Err faults.ReadFault)
 
 -- what was read is a good header and at least one good job, and ends with the line of the last job
 abbrev pub EndsInJob : List ℕ → List ℕ → Type 0

@@ -5,7 +5,7 @@ use Rattle.hoare_law.specs.declared.event.Event.{Event}
 use Rattle.hoare_law.specs.declared.event.History.{History}
 use Rattle.hoare_law.specs.declared.event.Event.TheVariants.{Admit, Wait, Signal, Resume, Back}
 use Rattle.hoare_law.specs.declared.turn.Turn.TheVariants.{Owed, Return}
-use Rattle.hoare_law.specs.Beside.Erasure.{erased}
+use Rattle.hoare_law.specs.Internal.WithoutData.{dataless}
 use Rattle.hoare_law.specs.Events.{place_of, own, newest, with_event}
 use Rattle.hoare_law.specs.Growth.{Begins, Signals, resumed_one}
 use Rattle.hoare_law.specs.Sizes.{IsHoare, IsMesa, Kinds, sizes_at}
@@ -48,7 +48,7 @@ module _ {D : Type 0} where
   -- the place k resumes next, and the book, once settled, is of the history afterwards
   pub record IsDue (k : ℕ) (h : History D) (event : D → Event D) (b : Contents) (s : D) : Type 0 where
     pub turn_is : next_of (turn h.events) ≡ For k
-    pub settles : IsOf b (settled (erased h)) → IsOf b (erased (with_event h (event s)))
+    pub settles : IsOf b (settled (dataless h)) → IsOf b (dataless (with_event h (event s)))
 
   is_due : (k : ℕ) (h : History D) (event : D → Event D) (b : Contents) (s : D) → ComesBack k event
       → Allowed h (event s) → IsDue k h event b s

@@ -6,7 +6,7 @@ use Rattle.hoare_law.specs.declared.event.History.{History}
 use Rattle.hoare_law.specs.declared.event.Event.TheVariants.{Wait, Signal, Pass, Leave}
 use Rattle.hoare_law.specs.declared.turn.Turn.{Turn}
 use Rattle.hoare_law.specs.declared.turn.Turn.TheVariants.{Free, Held, Owed, Return}
-use Rattle.hoare_law.specs.Beside.Erasure.{erased}
+use Rattle.hoare_law.specs.Internal.WithoutData.{dataless}
 use Rattle.hoare_law.specs.Events.{place_of, data_of, own, with_event}
 use Rattle.hoare_law.specs.Growth.{Begins, Exits, passed_on}
 use Rattle.hoare_law.specs.Sizes.{IsHoare, Kinds, sizes_at}
@@ -67,7 +67,7 @@ module _ {D : Type 0} where
   chooses c f who r =
       subst (λ (w : ℕ). Chooses c f.events w) (sym r.goes_on) (Chooses-place c f.events r.chosen_one r.is)
 
-  handed_to : (h : History D) (w c : ℕ) (b : Contents) (who : Next) → IsOf b (erased h) → turn h.events ≡ Owed w c
+  handed_to : (h : History D) (w c : ℕ) (b : Contents) (who : Next) → IsOf b (dataless h) → turn h.events ≡ Owed w c
       → who ≡ next_of b.turn
       → place_for who ≡ w
   handed_to h w c b who o is answered = ap place_for (answered ∙ ap next_of (turn-history b h o ∙ is))
@@ -133,7 +133,7 @@ module _ {D : Type 0} where
     may_give : (event : D → Event D) (b : Contents) (who : Next) → Holds rest ready kinds d i t k f me x
         → place_of (event x.state) ≡ k → data_of (event x.state) ≡ x.state → is_inside (event x.state) ≡ false
         → Allowed f (event x.state) → Owes rest ready f.events (event x.state)
-        → IsOf b (erased (with_event f (event x.state))) → who ≡ next_of b.turn
+        → IsOf b (dataless (with_event f (event x.state))) → who ≡ next_of b.turn
         → MayGive rest ready event k me (record { state = x.state; book = b }) who
     may_give event b who h mine same goes allowed owes book is = (
       f,
@@ -158,7 +158,7 @@ module _ {D : Type 0} where
 
     pub gives_leave : (b : Contents) (who : Next) → Holds rest ready kinds d i t k f me x
         → rest i.state (priorities i.front.events)
-        → IsOf b (with_event (erased f) (Leave k tt)) → who ≡ next_of b.turn
+        → IsOf b (with_event (dataless f) (Leave k tt)) → who ≡ next_of b.turn
         → MayGive rest ready (event_of k departure.Leave who) k me (record { state = x.state; book = b }) who
     gives_leave b who h asked book is =
         may_give (λ s. Leave k s) b who h refl refl refl
@@ -167,7 +167,7 @@ module _ {D : Type 0} where
 
     pub gives_wait : (c p : ℕ) (b : Contents) (who : Next) → Holds rest ready kinds d i t k f me x
         → c < kinds.conditions
-        → rest i.state (joined (priorities i.front.events) c p) → IsOf b (with_event (erased f) (Wait k c p tt))
+        → rest i.state (joined (priorities i.front.events) c p) → IsOf b (with_event (dataless f) (Wait k c p tt))
         → who ≡ next_of b.turn
         → MayGive rest ready (event_of k (departure.Wait c p) who) k me (record { state = x.state; book = b }) who
     gives_wait c p b who h small asked book is =
@@ -185,7 +185,7 @@ module _ {D : Type 0} where
     -- the place hands the monitor off: by a pass if it leaves, else by a signal
     pub resumes_handing : (out : Bool) (c : ℕ) (b : Contents) (who : Next) → Holds rest ready kinds d i t k f me x
         → priorities i.front.events c ≢ []
-        → IsOf b (after_handing out (erased f) k c (chosen c (erased f).events)) → who ≡ next_of b.turn
+        → IsOf b (after_handing out (dataless f) k c (chosen c (dataless f).events)) → who ≡ next_of b.turn
         → Resumes c f who
     resumes_handing out c b who h some book is =
         let e = some_here c h some in
@@ -213,7 +213,7 @@ module _ {D : Type 0} where
     pub gives_handing : (out : Bool) (c : ℕ) (b : Contents) (who : Next) → Holds rest ready kinds d i t k f me x
         → IsHoare kinds.conditions kinds.mesa c
         → priorities i.front.events c ≢ [] → Handed ready c i
-        → IsOf b (after_handing out (erased f) k c (chosen c (erased f).events)) → who ≡ next_of b.turn
+        → IsOf b (after_handing out (dataless f) k c (chosen c (dataless f).events)) → who ≡ next_of b.turn
         → MayGive rest ready (λ s. handing out k c (place_for who) s) k me (record { state = x.state; book = b }) who
     gives_handing out c b who h hoare some asked book is =
         let r = resumes_handing out c b who h some book is in
@@ -249,34 +249,34 @@ module _ {D : Type 0} where
     -- which place resumes next after the event
     next_after : (e : Event D) (b : Contents) (who : Next) (z : PlaceId) (o : PlaceOut D)
         → Holds rest ready kinds d i t k f me x
-        → IsOf b (erased (with_event f e)) → who ≡ next_of b.turn → o ≡ place_out z k (with_event f e)
+        → IsOf b (dataless (with_event f e)) → who ≡ next_of b.turn → o ≡ place_out z k (with_event f e)
         → who ≡ next_of (turn o.front.events)
     next_after e b who z o h book answered is =
         next-history b (with_event f e) who book answered
         ∙ ap (λ (p : PlaceOut D). next_of (turn p.front.events)) (sym is)
 
     pub next_leave : (b : Contents) (who : Next) (z : PlaceId) (o : PlaceOut D) → Holds rest ready kinds d i t k f me x
-        → IsOf b (with_event (erased f) (Leave k tt)) → who ≡ next_of b.turn
+        → IsOf b (with_event (dataless f) (Leave k tt)) → who ≡ next_of b.turn
         → o ≡ place_out z k (with_event f (Leave k x.state)) → who ≡ next_of (turn o.front.events)
     next_leave b who z o h book answered is =
         next_after (Leave k x.state) b who z o h (IsOf-event b f (Leave k x.state) book) answered is
 
     pub next_wait : (c p : ℕ) (b : Contents) (who : Next) (z : PlaceId) (o : PlaceOut D)
         → Holds rest ready kinds d i t k f me x
-        → IsOf b (with_event (erased f) (Wait k c p tt)) → who ≡ next_of b.turn
+        → IsOf b (with_event (dataless f) (Wait k c p tt)) → who ≡ next_of b.turn
         → o ≡ place_out z k (with_event f (Wait k c p x.state)) → who ≡ next_of (turn o.front.events)
     next_wait c p b who z o h book answered is =
         next_after (Wait k c p x.state) b who z o h (IsOf-event b f (Wait k c p x.state) book) answered is
 
     pub next_handing : (out : Bool) (c : ℕ) (b : Contents) (who : Next) (z : PlaceId) (o : PlaceOut D)
         → Holds rest ready kinds d i t k f me x → priorities i.front.events c ≢ []
-        → IsOf b (after_handing out (erased f) k c (chosen c (erased f).events)) → who ≡ next_of b.turn
+        → IsOf b (after_handing out (dataless f) k c (chosen c (dataless f).events)) → who ≡ next_of b.turn
         → o ≡ place_out z k (with_event f (handing out k c (place_for who) x.state))
         → who ≡ next_of (turn o.front.events)
     next_handing out c b who z o h some book answered is =
         let r = resumes_handing out c b who h some book answered in
         next_after (handing out k c (place_for who) x.state) b who z o h
-        (subst (λ (j : ℕ). IsOf b (erased (with_event f (handing out k c j x.state)))) (sym r.goes_on)
+        (subst (λ (j : ℕ). IsOf b (dataless (with_event f (handing out k c j x.state)))) (sym r.goes_on)
         (IsOf-handing out b f k c r.chosen_one x.state r.is book)) answered is
 
     -- the place after an event by which it is away
@@ -315,7 +315,7 @@ module _ {D : Type 0} where
     pub handed_over : (c : ℕ) (b : Contents) (who : Next) (z : PlaceId) (o : PlaceOut D)
         → Holds rest ready kinds d i t k f me x → IsHoare kinds.conditions kinds.mesa c
         → priorities i.front.events c ≢ [] → Handed ready c i
-        → IsOf b (after_signal (erased f) k c (chosen c (erased f).events)) → who ≡ next_of b.turn
+        → IsOf b (after_signal (dataless f) k c (chosen c (dataless f).events)) → who ≡ next_of b.turn
         → z ≡ t → o ≡ place_out z k (with_event f (Signal k c (place_for who) x.state))
         → Signalled rest ready kinds d i c o
     handed_over c b who z o h hoare some asked book is same gone =
@@ -348,7 +348,7 @@ module _ {D : Type 0} where
     pub passed : (c : ℕ) (b : Contents) (who : Next) (z : PlaceId) (o : PlaceOut D)
         → Holds rest ready kinds d i t k f me x → IsHoare kinds.conditions kinds.mesa c
         → priorities i.front.events c ≢ [] → Handed ready c i
-        → IsOf b (after_pass (erased f) k c (chosen c (erased f).events)) → who ≡ next_of b.turn
+        → IsOf b (after_pass (dataless f) k c (chosen c (dataless f).events)) → who ≡ next_of b.turn
         → z ≡ t → o ≡ place_out z k (with_event f (Pass k c (place_for who) x.state)) → Passed rest ready kinds d i c o
     passed c b who z o h hoare some asked book is same gone =
         let r = resumes_handing true c b who h some book is in

@@ -4,7 +4,7 @@ use Rattle.hoare_law.specs.declared.event.Sizes.{Sizes}
 use Rattle.hoare_law.specs.declared.event.History.{History}
 use Rattle.hoare_law.specs.Sizes.{Kinds, sizes_at}
 use Rattle.hoare_law.specs.declared.turn.Turn.TheVariants.{Held}
-use Rattle.hoare_law.specs.Beside.Erasure.{erased}
+use Rattle.hoare_law.specs.Internal.WithoutData.{dataless}
 use Rattle.hoare_law.specs.Lawful.{Rest, Ready}
 use Rattle.hoare_law.specs.Priorities.{priorities}
 use Rattle.hoare_law.proofs.Waiters.{held-in_range}
@@ -24,7 +24,7 @@ module _ {D : Type 0} where
       (f : History D) (me : SeatState D) (x : Guarded D) : Type 0 where
     pub seen : place_in t k f x.state ≡ i
     pub within : IsIn rest ready kinds d (place_in t k f x.state)
-    pub book : IsOf x.book (erased f)
+    pub book : IsOf x.book (dataless f)
     pub me_is : me ≡ (alone k f, (0, None) ∷ [])
 
   module _ {rest : Rest D} {ready : Ready D} {kinds : Kinds} {d : DoorId} {i : PlaceIn D} {t : PlaceId} {k : ℕ}
@@ -35,7 +35,7 @@ module _ {D : Type 0} where
         let seen = ap (λ (w : Guarded D). place_in t k f w.state) same ∙ view in record {
           seen = seen;
           within = subst (IsIn rest ready kinds d) (sym seen) of;
-          book = subst (λ (w : Guarded D). IsOf w.book (erased f)) (sym same) inv.1;
+          book = subst (λ (w : Guarded D). IsOf w.book (dataless f)) (sym same) inv.1;
           me_is = inv.0;
         }
 
@@ -66,8 +66,8 @@ module _ {D : Type 0} where
 
   -- the book that a call is lent is of the front
   pub book_in_hand : {k : ℕ} {f : History D} {me : SeatState D} {b c : Contents} → b ≡ c → IsInside k f me c
-      → IsOf b (erased f)
-  book_in_hand {f = f} same inv = subst (λ (a : Contents). IsOf a (erased f)) (sym same) inv.1
+      → IsOf b (dataless f)
+  book_in_hand {f = f} same inv = subst (λ (a : Contents). IsOf a (dataless f)) (sym same) inv.1
 
   -- so the book's priorities are those of the contract
   pub listed_in_hand : {t : PlaceId} {k : ℕ} {f : History D} {s : D} {i : PlaceIn D} {me : SeatState D} {b c : Contents}

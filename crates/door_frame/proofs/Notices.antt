@@ -8,7 +8,7 @@ use Rattle.hoare_law.specs.declared.event.Event.{Event}
 use Rattle.hoare_law.specs.declared.event.History.{History}
 use Rattle.hoare_law.specs.declared.event.Event.TheVariants as event
 use Rattle.hoare_law.specs.declared.turn.Turn.TheVariants.{Held}
-use Rattle.hoare_law.specs.Beside.Erasure.{erased}
+use Rattle.hoare_law.specs.Internal.WithoutData.{dataless}
 use Rattle.hoare_law.specs.Events.{place_of, with_event}
 use Rattle.hoare_law.specs.Growth.{Notifies, Broadcasts, called_one, called_all}
 use Rattle.hoare_law.specs.Sizes.{IsMesa, Kinds, sizes_at}
@@ -141,23 +141,23 @@ module _ {D : Type 0} where
       notes_notice (Broadcast c) h mesa_c some = notes_broadcast c h mesa_c some
 
       book_notified : (c : ℕ) (b : Contents) → Holds rest ready kinds d i t k f me x
-          → priorities i.front.events c ≢ [] → IsOf b (after_notify (erased f) k c (chosen c (erased f).events))
-          → IsOf b (erased (with_event f (event_of_notice k (Notify c) x.state f)))
+          → priorities i.front.events c ≢ [] → IsOf b (after_notify (dataless f) k c (chosen c (dataless f).events))
+          → IsOf b (dataless (with_event f (event_of_notice k (Notify c) x.state f)))
       book_notified c b h some o =
           let e = chosen-some c f.events (some_listed c h some) in
-          subst (λ (w : ℕ). IsOf b (erased (with_event f (event.Notify k c w x.state))))
+          subst (λ (w : ℕ). IsOf b (dataless (with_event f (event.Notify k c w x.state))))
           (sym (chosen_place-is c f.events e.0 e.1))
           (IsOf-notify b f k c e.0 x.state e.1 o)
 
       book_all_called : (c : ℕ) (b : Contents) → Holds rest ready kinds d i t k f me x
-          → priorities i.front.events c ≢ [] → IsOf b (after_broadcast (erased f) k c (waiting c (erased f).events))
-          → IsOf b (erased (with_event f (event_of_notice k (Broadcast c) x.state f)))
+          → priorities i.front.events c ≢ [] → IsOf b (after_broadcast (dataless f) k c (waiting c (dataless f).events))
+          → IsOf b (dataless (with_event f (event_of_notice k (Broadcast c) x.state f)))
       book_all_called c b h some o = IsOf-broadcast b f k c x.state (somebody_waits c h some) o
 
       -- the book in hand is then of the front
       pub book_noticed : (notice : Notice) (b : Contents) → Holds rest ready kinds d i t k f me x
-          → priorities i.front.events (called_on notice) ≢ [] → IsOf b (after_notice (erased f) k notice)
-          → IsOf b (erased (with_event f (event_of_notice k notice x.state f)))
+          → priorities i.front.events (called_on notice) ≢ [] → IsOf b (after_notice (dataless f) k notice)
+          → IsOf b (dataless (with_event f (event_of_notice k notice x.state f)))
       book_noticed (Notify c) b h some o = book_notified c b h some o
       book_noticed (Broadcast c) b h some o = book_all_called c b h some o
 

@@ -17,7 +17,7 @@ use Rattle.hoare_law.specs.declared.event.Event.TheVariants.{Admit, Resume, Back
 use Rattle.hoare_law.specs.declared.turn.Turn.{Turn}
 use Rattle.hoare_law.specs.declared.turn.Turn.TheVariants.{Free, Held, Owed, Return}
 use Rattle.hoare_law.specs.Events.{place_of, data_of, own, newest, latest_data, opened, with_event}
-use Rattle.hoare_law.specs.Beside.Erasure.{erased}
+use Rattle.hoare_law.specs.Internal.WithoutData.{dataless}
 use Rattle.hoare_law.specs.Lawful.{Rest, Ready, Owes, Stands}
 use Rattle.hoare_law.specs.Legal.{Allowed}
 use Rattle.hoare_law.specs.Priorities.{nobody}
@@ -365,7 +365,7 @@ module _ {D : Type 0} (Initial : Bool → List ℕ → Type 0) (WordsFit : Histo
           → (x : Guarded D) × (get_elem? (set s.homes 0 none) 0 ≡ some (some (Some x))) × Lies h x
       not_given_up l h held up = absurd (subst IsGivenUp held up)
 
-  lies_of : (f : History D) (e : Event D) (x : Guarded D) → data_of e ≡ x.state → IsOf x.book (erased (with_event f e))
+  lies_of : (f : History D) (e : Event D) (x : Guarded D) → data_of e ≡ x.state → IsOf x.book (dataless (with_event f e))
       → Lies (with_event f e) x
   lies_of f e x same book = record { latest = sym (latest_data-push f e ∙ same); book = book }
 

@@ -8,7 +8,7 @@ use Rattle.hoare_law.specs.declared.event.History.{History}
 use Rattle.hoare_law.specs.Sizes.{Kinds, sizes_at}
 use Rattle.hoare_law.specs.declared.turn.Turn.TheVariants.{Held}
 use Rattle.hoare_law.specs.Events.{own, latest_data}
-use Rattle.hoare_law.specs.Beside.Erasure.{erased}
+use Rattle.hoare_law.specs.Internal.WithoutData.{dataless}
 use Rattle.hoare_law.specs.Growth.{Begins}
 use Rattle.hoare_law.specs.Lawful.{Rest, Ready, Stands}
 use Rattle.hoare_law.specs.Turns.{turn, IsGivenUp}
@@ -41,7 +41,7 @@ module _ {D : Type 0} where
   -- the contents x of the slot are what the history left
   pub record Lies (h : History D) (x : Guarded D) : Type 0 where
     pub latest : x.state ≡ latest_data h
-    pub book : IsOf x.book (erased h)
+    pub book : IsOf x.book (dataless h)
 
   -- Of the words: Initial is what they are before the door opens (true if the first seat has the slot by then),
   -- WordsFit is that they fit the log and the tokens of an open door

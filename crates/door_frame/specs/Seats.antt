@@ -3,7 +3,7 @@ use Rattle.std.specs.Prelude.{◌≡◌, ℕ, true, [], ◌∷◌, None}
 use Rattle.hoare_law.specs.declared.event.Event.{Event}
 use Rattle.hoare_law.specs.declared.event.History.{History}
 use Rattle.hoare_law.specs.Events.{with_event}
-use Rattle.hoare_law.specs.Beside.Erasure.{erased}
+use Rattle.hoare_law.specs.Internal.WithoutData.{dataless}
 use Rattle.hoare_law.specs.Lawful.{Rest, Ready}
 use Rattle.hoare_law.specs.Turns.{turn, IsGivenUp, outside}
 use Rattle.wait_book.specs.Contents.{Contents, IsOf}
@@ -18,7 +18,7 @@ module _ {D : Type 0} where
 
   -- the seat of the place k, which knows f, with the slot in hand, empty: the book in hand is of f
   abbrev pub IsInside : ℕ → History D → SeatState D → Contents → Type 0
-  IsInside k f me b = (me ≡ (alone k f, (0, None) ∷ [])) × IsOf b (erased f)
+  IsInside k f me b = (me ≡ (alone k f, (0, None) ∷ [])) × IsOf b (dataless f)
 
   -- the seat of a place that has released the monitor, by its front
   abbrev pub HasReleased : SeatState D → Type 0

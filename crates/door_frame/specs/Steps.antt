@@ -7,7 +7,7 @@ use Rattle.hoare_law.specs.declared.event.History.{History}
 use Rattle.hoare_law.specs.declared.event.Event.TheVariants.{Wait, Resume, Back}
 use Rattle.hoare_law.specs.declared.turn.Turn.TheVariants.{Held}
 use Rattle.hoare_law.specs.Events.{own, newest, place_of, data_of, opened, with_event}
-use Rattle.hoare_law.specs.Beside.Erasure.{erased}
+use Rattle.hoare_law.specs.Internal.WithoutData.{dataless}
 use Rattle.hoare_law.specs.Growth.{Begins}
 use Rattle.hoare_law.specs.Lawful.{Rest, Ready, Owes, Stands}
 use Rattle.hoare_law.specs.Legal.{Allowed}
@@ -68,7 +68,7 @@ module _ {D : Type 0} where
     pub owes : Owes rest ready f.events (event x.state)
     pub given_up : IsGivenUp (turn (with_event f (event x.state)).events)
     pub same_data : data_of (event x.state) ≡ x.state
-    pub book : IsOf x.book (erased (with_event f (event x.state)))
+    pub book : IsOf x.book (dataless (with_event f (event x.state)))
     pub next_is : next ≡ next_of (turn (with_event f (event x.state)).events)
 
   -- the seat is that of the place k, inside with some f, which may put the slot back by the event
@@ -101,7 +101,7 @@ module _ {D : Type 0} where
     pub begins : Begins f log
     pub own_are : own k log.events ≡ own k f.events
     pub stands : Stands rest ready (with_event log (event x.state))
-    pub book : IsOf x.book (erased log)
+    pub book : IsOf x.book (dataless log)
 
   -- the same of a place without a token
   abbrev pub EnteredBy : Rest D → Ready D → ℕ → History D → (D → Event D) → Guarded D → Option (Guarded D)

@@ -13,7 +13,7 @@ pub mod Sorted
 pub mod Priorities
 pub mod Owed
 pub mod Fronts
-pub mod Erasure
+pub mod WithoutData
 pub mod Rules
 pub mod Joined
 pub mod Firsts

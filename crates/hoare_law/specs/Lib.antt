@@ -7,6 +7,6 @@ pub mod Turns
 pub mod Legal
 pub mod Lawful
 pub mod Growth
-pub mod Beside
+pub mod Internal
 pub mod Admissions
 pub mod Overtaking

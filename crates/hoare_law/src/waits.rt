@@ -110,7 +110,7 @@ impl<'a, W: Waits> Waits for Joined<'a, W> {
         self.priority
     }
 
-    ghost use Rattle.hoare_law.specs.Beside.Rising.{IsNonDecreasing-joined};
+    ghost use Rattle.hoare_law.specs.Internal.Rising.{IsNonDecreasing-joined};
 
     ghost rise = { λ j c. IsNonDecreasing-joined (W.waiting_priorities j.lists.now) j.condition
         j.priority c (W.rise j.lists.now c) };
@@ -158,7 +158,7 @@ impl<'a, W: Waits> Waits for Taken<'a, W> {
         }
     }
 
-    ghost use Rattle.hoare_law.specs.Beside.Rising.{IsNonDecreasing-taken};
+    ghost use Rattle.hoare_law.specs.Internal.Rising.{IsNonDecreasing-taken};
 
     ghost rise = { λ t c. IsNonDecreasing-taken (W.waiting_priorities t.lists.now) t.condition c
         (W.rise t.lists.now c) };

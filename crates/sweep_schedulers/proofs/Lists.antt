@@ -7,7 +7,7 @@ use Rattle.std.proofs.lemmas.Bool.Decides.{nat_tests}
 use Rattle.std.proofs.lemmas.List.Elements.{All-head, All-tail}
 use Rattle.std.proofs.lemmas.List.Sums.{sum_by-cons}
 use Rattle.hoare_law.specs.Priorities.{put_in, behind_first}
-use Rattle.hoare_law.specs.Beside.Rising.{IsNonDecreasing-behind_first}
+use Rattle.hoare_law.specs.Internal.Rising.{IsNonDecreasing-behind_first}
 
 -- what holds of all, holds of all but the first
 pub All-others : (P : ℕ → Type 0) (q : List ℕ) → All P q → All P (behind_first q)

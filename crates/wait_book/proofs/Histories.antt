@@ -22,7 +22,7 @@ use Rattle.hoare_law.specs.Called.{called_by, called}
 use Rattle.hoare_law.specs.Turns.{urgent, turn, turn_by, outside, is_out, is_signal}
 use Rattle.hoare_law.specs.Priorities.{put_in, in_order, behind_first}
 use Rattle.hoare_law.specs.Legal.{Allowed}
-use Rattle.hoare_law.specs.Beside.Erasure.{without_data}
+use Rattle.hoare_law.specs.Internal.WithoutData.{without_data}
 use Rattle.hoare_law.proofs.Waiting.{waiting-push}
 use Rattle.hoare_law.proofs.Called.{called-push}
 use Rattle.hoare_law.proofs.Calling.{called_by-notify}

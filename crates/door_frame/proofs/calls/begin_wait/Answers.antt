@@ -1,4 +1,4 @@
-use Rattle.hoare_law.specs.Beside.Erasure.{erased}
+use Rattle.hoare_law.specs.Internal.WithoutData.{dataless}
 use Rattle.door_frame.proofs.Departures.{gives_wait, waited, next_wait}
 use Rattle.door_frame.proofs.Inside.{holds_unpacked, turn_in_hand}
 use Rattle.door_frame.proofs.Seats.{berth_on}
@@ -12,7 +12,7 @@ pub release-requires-clause-event : goal.release-requires-clause-event
 release-requires-clause-event g c =
     let h = holds_unpacked c.deref_mut.ensures.value c.parcel.view_is c.into_parts-seat.ensures c.requires.of in
     gives_wait _ _ _ _ h c.requires.in_range c.requires.rest
-    (c.wait-next.ensures.of (erased c.args.inside.front) h.book) c.wait-next.ensures.next
+    (c.wait-next.ensures.of (dataless c.args.inside.front) h.book) c.wait-next.ensures.next
 
 pub of_parts-requires : goal.of_parts-requires
 of_parts-requires g c = (_, c.release.ensures.away _ c.into_parts-seat.ensures.seat.0)
@@ -29,5 +29,5 @@ returns g c =
       place = o.place;
       front = o.front;
       next = next_wait c.args.condition c.args.priority _ _ _ _ h
-          (c.wait-next.ensures.of (erased c.args.inside.front) h.book) c.wait-next.ensures.next is;
+          (c.wait-next.ensures.of (dataless c.args.inside.front) h.book) c.wait-next.ensures.next is;
     }

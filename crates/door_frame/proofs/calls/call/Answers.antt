@@ -1,5 +1,5 @@
 use Rattle.std.proofs.Common.{ap, refl, subst}
-use Rattle.hoare_law.specs.Beside.Erasure.{erased}
+use Rattle.hoare_law.specs.Internal.WithoutData.{dataless}
 use Rattle.door_frame.specs.declared.parcel.Guarded.{Guarded}
 use Rattle.door_frame.specs.Notices.{IsCounted, called_on}
 use Rattle.door_frame.specs.Seats.{IsInside}
@@ -31,7 +31,7 @@ invariant_of-inside g c =
     let same = unpacked c.deref_mut.ensures.value c.parcel.view_is in
     let book = book_in_hand (ap (λ (w : Guarded g.row.D.Denot). w.book) same) c.inside.invariant in
     at_front (λ h. IsInside c.inside.inside.place h c.note.new.seat.me c.book_calls.new.book) _ _ _ _ _ now
-    (now, book_noticed c.args.notice _ h c.requires.some (c.book_calls.ensures.of (erased f) book))
+    (now, book_noticed c.args.notice _ h c.requires.some (c.book_calls.ensures.of (dataless f) book))
 
 pub returns : goal.returns
 returns g c =

@@ -1,7 +1,7 @@
 use Rattle.std.proofs.Common.{◌<◌, ap, sym, ◌∙◌, subst}
 use Rattle.hoare_law.specs.declared.event.Sizes.{Sizes}
 use Rattle.hoare_law.specs.declared.event.Event.TheVariants.{Admit}
-use Rattle.hoare_law.specs.Beside.Erasure.{erased}
+use Rattle.hoare_law.specs.Internal.WithoutData.{dataless}
 use Rattle.hoare_law.specs.Events.{with_event}
 use Rattle.hoare_law.proofs.Legal.{IsLegal-last}
 use Rattle.wait_book.specs.Contents.{IsOf}
@@ -37,7 +37,7 @@ of_parts-requires g c =
       (
         in_.me_is,
         IsOf-event _ in_.log (Admit c.args.place c.deref_mut.result.now.guarded.state)
-            (c.admit.ensures.of (erased in_.log) in_.book),
+            (c.admit.ensures.of (dataless in_.log) in_.book),
       ),
     )
 
@@ -46,9 +46,9 @@ returns g c = λ f came.
     let same = unpacked c.deref_mut.ensures.value c.parcel.view_is in
     let k = c.args.place in
     let e = Admit k c.args.parcel.state in
-    let held = subst (λ (w : Guarded g.row.D.Denot). IsOf w.book (erased came.log)) (sym same) came.book in
+    let held = subst (λ (w : Guarded g.row.D.Denot). IsOf w.book (dataless came.log)) (sym same) came.book in
     c.of_parts.ensures (with_event came.log e)
-    (came.me_is, IsOf-event _ came.log e (c.admit.ensures.of (erased came.log) held))
+    (came.me_is, IsOf-event _ came.log e (c.admit.ensures.of (dataless came.log) held))
     ∙ ap
     (λ (w : Guarded g.row.D.Denot).
     place_in (place_id c.args.seat.table_id (g.S.Parking.at c.args.seat.table_id c.args.sleeper)) k (with_event

@@ -1,4 +1,4 @@
-use Rattle.hoare_law.specs.Beside.Erasure.{erased}
+use Rattle.hoare_law.specs.Internal.WithoutData.{dataless}
 use Rattle.door_frame.proofs.Departures.{gives_leave, left, next_leave}
 use Rattle.door_frame.proofs.Inside.{holds_unpacked, turn_in_hand}
 use Rattle.door_frame.proofs.Seats.{berth_on}
@@ -11,7 +11,7 @@ leave-next-requires g c =
 pub release-requires-clause-event : goal.release-requires-clause-event
 release-requires-clause-event g c =
     let h = holds_unpacked c.deref_mut.ensures.value c.parcel.view_is c.into_parts-seat.ensures c.requires.of in
-    gives_leave _ _ h c.requires.rest (c.leave-next.ensures.of (erased c.args.inside.front) h.book)
+    gives_leave _ _ h c.requires.rest (c.leave-next.ensures.of (dataless c.args.inside.front) h.book)
     c.leave-next.ensures.next
 
 pub of_parts-requires : goal.of_parts-requires
@@ -26,6 +26,6 @@ returns g c =
       of = o.of;
       place = o.place;
       front = o.front;
-      next = next_leave _ _ _ _ h (c.leave-next.ensures.of (erased c.args.inside.front) h.book)
+      next = next_leave _ _ _ _ h (c.leave-next.ensures.of (dataless c.args.inside.front) h.book)
           c.leave-next.ensures.next is;
     }

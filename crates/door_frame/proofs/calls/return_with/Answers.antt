@@ -1,5 +1,5 @@
 use Rattle.std.proofs.Common.{ap, sym, ◌∙◌, subst}
-use Rattle.hoare_law.specs.Beside.Erasure.{erased}
+use Rattle.hoare_law.specs.Internal.WithoutData.{dataless}
 use Rattle.hoare_law.specs.Events.{with_event}
 use Rattle.hoare_law.proofs.Legal.{IsLegal-last}
 use Rattle.wait_book.specs.Contents.{IsOf, next_of}
@@ -25,7 +25,7 @@ of_parts-requires g c =
     let in_ = came_as (unpacked c.deref_mut.ensures.value c.parcel.view_is) c.requires.came.1 in
     let f = c.requires.came.0 in
     let back = is_due_by c.args.place in_.log f c.claim.new.self _ (IsLegal-last in_.log _ in_.stands.legal) in
-    (_, (in_.me_is, back.settles (c.claim.ensures.of (erased in_.log) in_.book)))
+    (_, (in_.me_is, back.settles (c.claim.ensures.of (dataless in_.log) in_.book)))
 
 pub returns : goal.returns
 returns g c = λ f came.
@@ -33,7 +33,7 @@ returns g c = λ f came.
     let k = c.args.place in
     let now = with_event came.log (due k f c.args.parcel.state) in
     let back = is_due_by k came.log f c.claim.new.self _ (IsLegal-last came.log _ came.stands.legal) in
-    let held = subst (λ (w : Guarded g.row.D.Denot). IsOf w.book (erased came.log)) (sym same) came.book in
-    c.of_parts.ensures now (came.me_is, back.settles (c.claim.ensures.of (erased came.log) held))
+    let held = subst (λ (w : Guarded g.row.D.Denot). IsOf w.book (dataless came.log)) (sym same) came.book in
+    c.of_parts.ensures now (came.me_is, back.settles (c.claim.ensures.of (dataless came.log) held))
     ∙ ap (λ (w : Guarded g.row.D.Denot). place_in (place_id c.args.seat.table_id (g.S.Parking.at c.args.seat.table_id
     c.args.sleeper)) k now w.state) same

@@ -1,5 +1,5 @@
 use Rattle.std.proofs.Common.{true, refl}
-use Rattle.hoare_law.specs.Beside.Erasure.{erased}
+use Rattle.hoare_law.specs.Internal.WithoutData.{dataless}
 use Rattle.hoare_law.specs.Growth.{just_left}
 use Rattle.wait_book.proofs.WithData.{none-listed}
 use Rattle.door_frame.proofs.Departures.{gives_handing, passed, next_handing}
@@ -26,7 +26,7 @@ release-requires-clause-event g c =
     let h = holds_unpacked c.deref_mut.ensures.value c.parcel.view_is c.into_parts-seat.ensures c.requires.of in
     let some = (c.if-not-queue.ensures.lists).0 refl in
     gives_handing true _ _ _ h c.requires.hoare some (c.requires.ready some)
-    (c.pass-next.ensures.of (erased c.args.inside.front) h.book) c.pass-next.ensures.next
+    (c.pass-next.ensures.of (dataless c.args.inside.front) h.book) c.pass-next.ensures.next
 
 pub of_parts-requires : goal.of_parts-requires
 of_parts-requires g c = (_, c.release.ensures.away _ c.into_parts-seat.ensures.seat.0)
@@ -35,7 +35,7 @@ pub returns : goal.returns
 returns g c =
     let h = holds_unpacked c.deref_mut.ensures.value c.parcel.view_is c.into_parts-seat.ensures c.requires.of in
     let some = (c.if-not-queue.ensures.lists).0 refl in
-    let book = c.pass-next.ensures.of (erased c.args.inside.front) h.book in
+    let book = c.pass-next.ensures.of (dataless c.args.inside.front) h.book in
     let is = c.of_parts.ensures _ (c.release.ensures.away _ h.me_is) in
     let o = passed c.args.condition _ _ _ _ h c.requires.hoare some (c.requires.ready some) book
     c.pass-next.ensures.next (berth_on g.S.Parking.at _ c.release.ensures.table) is in

@@ -1,7 +1,7 @@
 use Rattle.std.proofs.Common.{◌≡◌, ◌≢◌, ℕ, List, [], ap, ◌∙◌, subst}
 use Rattle.std.specs.Prelude.{MatchOption, slice_index}
 use Rattle.std.specs.Option.{option_map}
-use Rattle.hoare_law.specs.Beside.Erasure.{erased}
+use Rattle.hoare_law.specs.Internal.WithoutData.{dataless}
 use Rattle.hoare_law.specs.Waiting.{priority_of, chosen}
 use Rattle.wait_book.proofs.WithData.{first-history}
 use Rattle.door_frame.specs.Places.{PlaceIn}
@@ -18,7 +18,7 @@ returns g c =
           (ap (λ (q : ℕ → List ℕ). q c.args.condition) are) c.first.ensures.lists;
       front =
           first-history c.first.result f c.args.condition
-          (c.first.ensures.of (erased f) (book_in_hand c.book.ensures c.self.invariant))
+          (c.first.ensures.of (dataless f) (book_in_hand c.book.ensures c.self.invariant))
           ∙ ap
           (λ (i : PlaceIn g.row.D.Denot). option_map priority_of (chosen c.args.condition i.front.events))
           c.self.view_is;

@@ -18,7 +18,7 @@ use Rattle.hoare_law.specs.Called.{join_splits, called_by, called}
 use Rattle.hoare_law.specs.Turns.{After, stays, frees, hands, after, is_signal, urgent, turn, turn_of, turn_by}
 use Rattle.hoare_law.specs.Turns.{turn_given_up, turn_after, is_out, outside}
 use Rattle.hoare_law.specs.Priorities.{put_in, put_all, in_order, priorities}
-use Rattle.hoare_law.specs.Beside.Erasure.{without_data, all_without_data, erased}
+use Rattle.hoare_law.specs.Internal.WithoutData.{without_data, all_without_data, dataless}
 use Rattle.hoare_law.proofs.Turns.{filter-map}
 use Rattle.hoare_law.proofs.Filters.{list_all-same, find-same}
 use Rattle.hoare_law.proofs.Sorted.{map-in_order, put_in-map}
@@ -95,173 +95,173 @@ module _ {S : Type 0} where
   same_parts (Broadcast k d s) = (refl, refl, refl, λ c. refl, λ c j. refl, refl, refl, refl)
 
   -- the place stays the same
-  pub place_of-erased : (e : Event S) → place_of (without_data e) ≡ place_of e
-  place_of-erased e = (same_parts e).0
+  pub place_of-dataless : (e : Event S) → place_of (without_data e) ≡ place_of e
+  place_of-dataless e = (same_parts e).0
 
   -- the priority stays the same
-  pub priority_of-erased : (e : Event S) → priority_of (without_data e) ≡ priority_of e
-  priority_of-erased e = (same_parts e).1
+  pub priority_of-dataless : (e : Event S) → priority_of (without_data e) ≡ priority_of e
+  priority_of-dataless e = (same_parts e).1
 
-  concerns-erased : (c j : ℕ) (e : Event S) → concerns c j (without_data e) ≡ concerns c j e
-  concerns-erased c j e = λ i. place_of-erased e i == j || (same_parts e).4 c j i
+  concerns-dataless : (c j : ℕ) (e : Event S) → concerns c j (without_data e) ≡ concerns c j e
+  concerns-dataless c j e = λ i. place_of-dataless e i == j || (same_parts e).4 c j i
 
-  given_up-erased : (us : List ℕ) (ws : List (Event S)) → turn_given_up us (all_without_data ws) ≡ turn_given_up us ws
-  given_up-erased [] [] = refl
-  given_up-erased [] (w ∷ ws) = λ i. Owed (place_of-erased w i) ((same_parts w).2 i)
-  given_up-erased (u ∷ us) ws = refl
+  given_up-dataless : (us : List ℕ) (ws : List (Event S)) → turn_given_up us (all_without_data ws) ≡ turn_given_up us ws
+  given_up-dataless [] [] = refl
+  given_up-dataless [] (w ∷ ws) = λ i. Owed (place_of-dataless w i) ((same_parts w).2 i)
+  given_up-dataless (u ∷ us) ws = refl
 
-  turn_by-erased : (e : Event S) (us : List ℕ) (ws : List (Event S))
+  turn_by-dataless : (e : Event S) (us : List ℕ) (ws : List (Event S))
       → turn_by (without_data e) us (all_without_data ws) ≡ turn_by e us ws
-  turn_by-erased e us ws =
-      (λ i. turn_of ((same_parts e).6 i) (place_of-erased e i) us (all_without_data ws)) ∙ by (after e)
+  turn_by-dataless e us ws =
+      (λ i. turn_of ((same_parts e).6 i) (place_of-dataless e i) us (all_without_data ws)) ∙ by (after e)
     where
       by : (a : After) → turn_of a (place_of e) us (all_without_data ws) ≡ turn_of a (place_of e) us ws
       by stays = refl
-      by frees = given_up-erased us ws
+      by frees = given_up-dataless us ws
       by (hands w c) = refl
 
-  is_out-erased : (o : Option (Event S)) → is_out (option_map without_data o) ≡ is_out o
-  is_out-erased None = refl
-  is_out-erased (Some e) = (same_parts e).7
+  is_out-dataless : (o : Option (Event S)) → is_out (option_map without_data o) ≡ is_out o
+  is_out-dataless None = refl
+  is_out-dataless (Some e) = (same_parts e).7
 
-  untouched-erased : (c : ℕ) (e : Event S) (later : List (Event S))
+  untouched-dataless : (c : ℕ) (e : Event S) (later : List (Event S))
       → is_untouched c (without_data e) (all_without_data later) ≡ is_untouched c e later
-  untouched-erased c e later =
+  untouched-dataless c e later =
       list_all-map (λ x. not (concerns c (place_of (without_data e)) x)) without_data later
       ∙ list_all-same _ (λ x. not (concerns c (place_of e) x)) later
-      (λ x. ap not (ap (λ j. concerns c j (without_data x)) (place_of-erased e) ∙ concerns-erased c (place_of e) x))
+      (λ x. ap not (ap (λ j. concerns c j (without_data x)) (place_of-dataless e) ∙ concerns-dataless c (place_of e) x))
 
-  last_act-erased : (e : Event S) (later : List (Event S))
+  last_act-dataless : (e : Event S) (later : List (Event S))
       → is_last_act (without_data e) (all_without_data later) ≡ is_last_act e later
-  last_act-erased e later =
+  last_act-dataless e later =
       list_all-map (λ x. not (place_of x == place_of (without_data e))) without_data later
       ∙ list_all-same _ (λ x. not (place_of x == place_of e)) later
-      (λ x. ap not ((λ i. place_of-erased x i == place_of-erased e i)))
+      (λ x. ap not ((λ i. place_of-dataless x i == place_of-dataless e i)))
 
   -- the last event stays the same, without its data
-  pub newest-erased : (h : List (Event S)) → newest (all_without_data h) ≡ option_map without_data (newest h)
-  newest-erased h = newest-map without_data h
+  pub newest-dataless : (h : List (Event S)) → newest (all_without_data h) ≡ option_map without_data (newest h)
+  newest-dataless h = newest-map without_data h
 
   -- the events of a place stay the same, without their data
-  pub own-erased : (k : ℕ) (h : List (Event S)) → own k (all_without_data h) ≡ all_without_data (own k h)
-  own-erased k h =
+  pub own-dataless : (k : ℕ) (h : List (Event S)) → own k (all_without_data h) ≡ all_without_data (own k h)
+  own-dataless k h =
       filter-map without_data (λ e. place_of e == k) h
-      ∙ ap (map without_data) (filter_agree _ (λ e. place_of e == k) (λ e. ap (λ j. j == k) (place_of-erased e)) h)
+      ∙ ap (map without_data) (filter_agree _ (λ e. place_of e == k) (λ e. ap (λ j. j == k) (place_of-dataless e)) h)
 
   -- the same processes wait
-  pub waiting-erased : (c : ℕ) (h : List (Event S)) → waiting c (all_without_data h) ≡ all_without_data (waiting c h)
+  pub waiting-dataless : (c : ℕ) (h : List (Event S)) → waiting c (all_without_data h) ≡ all_without_data (waiting c h)
   unfolding waiting
-  waiting-erased c h =
+  waiting-dataless c h =
       filter_by_later-map without_data _ (λ e later. waits_on c e && is_untouched c e later) h
-      (λ e later i. (same_parts e).3 c i && untouched-erased c e later i)
+      (λ e later i. (same_parts e).3 c i && untouched-dataless c e later i)
 
   -- the same signallers wait
-  pub urgent-erased : (h : List (Event S)) → urgent (all_without_data h) ≡ urgent h
+  pub urgent-dataless : (h : List (Event S)) → urgent (all_without_data h) ≡ urgent h
   unfolding urgent
-  urgent-erased h =
+  urgent-dataless h =
       ap (map place_of)
       (filter_by_later-map without_data _ (λ e later. is_signal e && is_last_act e later) h
-      (λ e later i. (same_parts e).5 i && last_act-erased e later i))
-      ∙ map-map_same without_data place_of place_of _ place_of-erased
+      (λ e later i. (same_parts e).5 i && last_act-dataless e later i))
+      ∙ map-map_same without_data place_of place_of _ place_of-dataless
 
-  put_in-erased : (x : Event S) (xs : List (Event S))
+  put_in-dataless : (x : Event S) (xs : List (Event S))
       → put_in priority_of (without_data x) (all_without_data xs) ≡ all_without_data (put_in priority_of x xs)
-  put_in-erased x xs = put_in-map without_data priority_of x xs ∙ ap all_without_data (put_in-same xs)
+  put_in-dataless x xs = put_in-map without_data priority_of x xs ∙ ap all_without_data (put_in-same xs)
     where
       put_in-same : (xs : List (Event S)) → put_in (λ y. priority_of (without_data y)) x xs ≡ put_in priority_of x xs
       put_in-same [] = refl
       put_in-same (y ∷ ys) =
-          (λ i. cond (leb (priority_of-erased y i) (priority_of-erased x i)) (y ∷ put_in-same ys i) (x ∷ y ∷ ys))
+          (λ i. cond (leb (priority_of-dataless y i) (priority_of-dataless x i)) (y ∷ put_in-same ys i) (x ∷ y ∷ ys))
 
-  put_all-erased : (placed xs : List (Event S))
+  put_all-dataless : (placed xs : List (Event S))
       → put_all priority_of (all_without_data placed) (all_without_data xs)
       ≡ all_without_data (put_all priority_of placed xs)
-  put_all-erased placed [] = refl
-  put_all-erased placed (x ∷ xs) =
-      ap (λ l. put_all priority_of l (all_without_data xs)) (put_in-erased x placed)
-      ∙ put_all-erased (put_in priority_of x placed) xs
+  put_all-dataless placed [] = refl
+  put_all-dataless placed (x ∷ xs) =
+      ap (λ l. put_all priority_of l (all_without_data xs)) (put_in-dataless x placed)
+      ∙ put_all-dataless (put_in priority_of x placed) xs
 
   -- the same processes in the same order
-  pub in_order-erased : (xs : List (Event S))
+  pub in_order-dataless : (xs : List (Event S))
       → in_order priority_of (all_without_data xs) ≡ all_without_data (in_order priority_of xs)
-  in_order-erased xs = put_all-erased [] xs
+  in_order-dataless xs = put_all-dataless [] xs
 
   -- each event notifies the same processes
-  called_by-erased : (f : List (Event S)) (e : Event S)
+  called_by-dataless : (f : List (Event S)) (e : Event S)
       → called_by (all_without_data f) (without_data e) ≡ all_without_data (called_by f e)
-  called_by-erased f (Notify k c w s) =
-      ap (filter (λ x. place_of x == w)) (waiting-erased c f)
+  called_by-dataless f (Notify k c w s) =
+      ap (filter (λ x. place_of x == w)) (waiting-dataless c f)
       ∙ filter-map without_data (λ x. place_of x == w) (waiting c f)
       ∙ ap (map without_data)
-      (filter_agree _ (λ x. place_of x == w) (λ x. ap (λ j. j == w) (place_of-erased x)) (waiting c f))
-  called_by-erased f (Broadcast k c s) = ap (in_order priority_of) (waiting-erased c f) ∙ in_order-erased (waiting c f)
-  called_by-erased f (Admit k s) = refl
-  called_by-erased f (Wait k c p s) = refl
-  called_by-erased f (Signal k c w s) = refl
-  called_by-erased f (Pass k c w s) = refl
-  called_by-erased f (Leave k s) = refl
-  called_by-erased f (Resume k c s) = refl
-  called_by-erased f (Back k s) = refl
+      (filter_agree _ (λ x. place_of x == w) (λ x. ap (λ j. j == w) (place_of-dataless x)) (waiting c f))
+  called_by-dataless f (Broadcast k c s) = ap (in_order priority_of) (waiting-dataless c f) ∙ in_order-dataless (waiting c f)
+  called_by-dataless f (Admit k s) = refl
+  called_by-dataless f (Wait k c p s) = refl
+  called_by-dataless f (Signal k c w s) = refl
+  called_by-dataless f (Pass k c w s) = refl
+  called_by-dataless f (Leave k s) = refl
+  called_by-dataless f (Resume k c s) = refl
+  called_by-dataless f (Back k s) = refl
 
   -- the same processes are notified
-  pub called-erased : (h : List (Event S)) → called (all_without_data h) ≡ all_without_data (called h)
+  pub called-dataless : (h : List (Event S)) → called (all_without_data h) ≡ all_without_data (called h)
   unfolding called
-  called-erased h = join_splits-map without_data without_data
+  called-dataless h = join_splits-map without_data without_data
       (λ before e later. filter (λ x. is_last_act x later) (called_by before e))
       (λ before e later. filter (λ x. is_last_act x later) (called_by before e)) [] h
       (λ before e later.
-      ap (filter (λ x. is_last_act x (all_without_data later))) (called_by-erased before e)
+      ap (filter (λ x. is_last_act x (all_without_data later))) (called_by-dataless before e)
       ∙ filter-map without_data (λ x. is_last_act x (all_without_data later)) (called_by before e)
       ∙ ap (map without_data)
-      (filter_agree _ (λ x. is_last_act x later) (λ x. last_act-erased x later) (called_by before e)))
+      (filter_agree _ (λ x. is_last_act x later) (λ x. last_act-dataless x later) (called_by before e)))
 
-  turn_after-erased : (o : Option (Event S)) (us : List ℕ) (ws : List (Event S))
+  turn_after-dataless : (o : Option (Event S)) (us : List ℕ) (ws : List (Event S))
       → turn_after (option_map without_data o) us (all_without_data ws) ≡ turn_after o us ws
-  turn_after-erased None us ws = refl
-  turn_after-erased (Some e) us ws = turn_by-erased e us ws
+  turn_after-dataless None us ws = refl
+  turn_after-dataless (Some e) us ws = turn_by-dataless e us ws
 
   -- the turn is the same
-  pub turn-erased : (h : List (Event S)) → turn (all_without_data h) ≡ turn h
+  pub turn-dataless : (h : List (Event S)) → turn (all_without_data h) ≡ turn h
   unfolding turn
-  turn-erased h =
-      (λ i. turn_after (newest-erased h i) (urgent-erased h i) (called-erased h i))
-      ∙ turn_after-erased (newest h) (urgent h) (called h)
+  turn-dataless h =
+      (λ i. turn_after (newest-dataless h i) (urgent-dataless h i) (called-dataless h i))
+      ∙ turn_after-dataless (newest h) (urgent h) (called h)
 
   -- the same places are outside
-  pub outside-erased : (k : ℕ) (h : List (Event S)) → outside k (all_without_data h) ≡ outside k h
+  pub outside-dataless : (k : ℕ) (h : List (Event S)) → outside k (all_without_data h) ≡ outside k h
   unfolding outside
-  outside-erased k h =
-      ap (λ l. is_out (newest l)) (own-erased k h) ∙ ap is_out (newest-erased (own k h))
-      ∙ is_out-erased (newest (own k h))
+  outside-dataless k h =
+      ap (λ l. is_out (newest l)) (own-dataless k h) ∙ ap is_out (newest-dataless (own k h))
+      ∙ is_out-dataless (newest (own k h))
 
-  least-erased : (ws : List (Event S)) (e : Event S) → is_least (all_without_data ws) (without_data e) ≡ is_least ws e
-  least-erased ws e =
+  least-dataless : (ws : List (Event S)) (e : Event S) → is_least (all_without_data ws) (without_data e) ≡ is_least ws e
+  least-dataless ws e =
       list_all-map _ without_data ws
-      ∙ list_all-same _ _ ws (λ x i. leb (priority_of-erased e i) (priority_of-erased x i))
+      ∙ list_all-same _ _ ws (λ x i. leb (priority_of-dataless e i) (priority_of-dataless x i))
 
   -- the same waiter is chosen
-  pub chosen-erased : (c : ℕ) (h : List (Event S))
+  pub chosen-dataless : (c : ℕ) (h : List (Event S))
       → chosen c (all_without_data h) ≡ option_map without_data (chosen c h)
   unfolding chosen
-  chosen-erased c h =
-      ap (λ ws. find (is_least ws) ws) (waiting-erased c h)
+  chosen-dataless c h =
+      ap (λ ws. find (is_least ws) ws) (waiting-dataless c h)
       ∙ find-map without_data (is_least (all_without_data (waiting c h))) (waiting c h)
-      ∙ ap (option_map without_data) (find-same _ (is_least (waiting c h)) (waiting c h) (least-erased (waiting c h)))
+      ∙ ap (option_map without_data) (find-same _ (is_least (waiting c h)) (waiting c h) (least-dataless (waiting c h)))
 
   priorities_at : (h : List (Event S)) (c : ℕ) → priorities (all_without_data h) c ≡ priorities h c
   unfolding priorities
   priorities_at h c =
-      ap (λ ws. map priority_of (in_order priority_of ws)) (waiting-erased c h)
+      ap (λ ws. map priority_of (in_order priority_of ws)) (waiting-dataless c h)
       ∙ map-in_order priority_of (all_without_data (waiting c h))
-      ∙ ap (in_order (λ n. n)) (map-map_same without_data priority_of priority_of (waiting c h) priority_of-erased)
+      ∙ ap (in_order (λ n. n)) (map-map_same without_data priority_of priority_of (waiting c h) priority_of-dataless)
       ∙ sym (map-in_order priority_of (waiting c h))
 
   -- the waiting priorities are the same
-  pub priorities-erased : (h : List (Event S)) → priorities (all_without_data h) ≡ priorities h
-  priorities-erased h = λ i c. priorities_at h c i
+  pub priorities-dataless : (h : List (Event S)) → priorities (all_without_data h) ≡ priorities h
+  priorities-dataless h = λ i c. priorities_at h c i
 
   -- a history with one more event
-  pub erased-push : (h : History S) (e : Event S) → erased (with_event h e) ≡ with_event (erased h) (without_data e)
+  pub dataless-push : (h : History S) (e : Event S) → dataless (with_event h e) ≡ with_event (dataless h) (without_data e)
   unfolding with_event
-  erased-push h e =
+  dataless-push h e =
       ap (λ l. record { sizes = h.sizes; opening = tt; events = l }) (map-append without_data h.events (e ∷ []))

@@ -22,5 +22,5 @@ abbrev pub all_without_data : {S : Type 0} → List (Event S) → List (Event (U
 all_without_data h = map without_data h
 
 -- the history with the unit in place of its data: what it says of the queues alone
-abbrev pub erased : {S : Type 0} → History S → History (Unit {0})
-erased h = record { sizes = h.sizes; opening = tt; events = all_without_data h.events }
+abbrev pub dataless : {S : Type 0} → History S → History (Unit {0})
+dataless h = record { sizes = h.sizes; opening = tt; events = all_without_data h.events }

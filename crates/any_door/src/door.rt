@@ -21,7 +21,7 @@ use wait_book::steps::MakeRefused;
 /// `TicketDoor` does the same with one test less in each call.
 ///
 /// ```rust
-/// let data = Unasked::<u64, 1> { value: 41 };
+/// let data = Unconstrained::<u64, 1> { value: 41 };
 /// let (door, mut outs) = kind.make(alloc, data, 2).map_err(|(_, refused)| refused)?;
 /// let mut inside = door.enter(&rt, outs.pop().unwrap());
 /// AnyDoor::state_mut(&mut inside, &door).value = 42;

@@ -27,11 +27,11 @@ use std::sync::atomic::AtomicBool;
 /// alone may take it then. One slot keeps the data, and the queues of waiters and signallers. If the type of the data
 /// has `Drop`, so has the door, and the data are dropped with it. `close` returns the data instead.
 ///
-/// In the example the data are a `u64`, and there is one condition. `rest` and `ready` of an `Unasked` always hold, so
+/// In the example the data are a `u64`, and there is one condition. `rest` and `ready` of an `Unconstrained` always hold, so
 /// the caller has nothing to prove.
 ///
 /// ```rust
-/// let data = Unasked::<u64, 1> { value: 41 };
+/// let data = Unconstrained::<u64, 1> { value: 41 };
 /// let (door, mut outs) = Door::make(alloc, data, 2).map_err(|(_, refused)| refused)?;
 /// let mut inside = door.enter(&rt, outs.pop().unwrap());
 /// Door::state_mut(&mut inside, &door).value = 42;

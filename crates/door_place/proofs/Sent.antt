@@ -13,9 +13,9 @@ use Rattle.atomic_table.proofs.shared.Seat.TheSendSync as seats
 use Rattle.counted_slot.specs.contracts.Counted as slot
 use Rattle.counted_slot.specs.contracts.OptionFits.TheImpl.{ghosts as option_ghosts, no_dict}
 use Rattle.counted_slot.proofs.Counted.TheSendSync as slots
-use Rattle.hoare_law.specs.contracts.unasked.Unasked as unasked
-use Rattle.hoare_law.specs.contracts.unasked.UnaskedMonitorData.TheImpl.{ghosts as data_ghosts}
-use Rattle.hoare_law.proofs.unasked.Unasked.TheSendSync as words
+use Rattle.hoare_law.specs.contracts.unconstrained.Unconstrained as unconstrained
+use Rattle.hoare_law.specs.contracts.unconstrained.UnconstrainedMonitorData.TheImpl.{ghosts as data_ghosts}
+use Rattle.hoare_law.proofs.unconstrained.Unconstrained.TheSendSync as words
 use Rattle.door_frame.specs.contracts.parcel.Parcel as parcel
 use Rattle.door_frame.proofs.parcel.Parcel.TheSendSync as parcels
 use Rattle.door_frame.specs.contracts.waking.ByCaller as caller
@@ -39,7 +39,7 @@ use Rattle.door_place.specs.contracts.keeper.Keeper as keeper
 use Rattle.door_place.specs.contracts.keeper.Keeper.TheInside as keeper-inside
 
 abbrev Word : RattleType
-Word = unasked.the_row u64 (number 1)
+Word = unconstrained.the_row u64 (number 1)
 
 word_send : IsSend Word
 word_send = words.the_send u64 (number 1) (search sendable)

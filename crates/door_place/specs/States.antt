@@ -3,7 +3,7 @@ use Rattle.std.specs.Prelude.{◌≡◌, ◌<◌, ◌≤◌, ℕ, [], ⊤, Bool,
 use Rattle.std.specs.Prelude.{◌≢◌, length, slice_index}
 use Rattle.hoare_law.specs.declared.event.Event.TheVariants.{Admit, Wait, Leave}
 use Rattle.hoare_law.specs.declared.event.History.{History}
-use Rattle.hoare_law.specs.declared.unasked.Unasked.{Unasked}
+use Rattle.hoare_law.specs.declared.unconstrained.Unconstrained.{Unconstrained}
 use Rattle.hoare_law.specs.Events.{opened, with_event}
 use Rattle.hoare_law.specs.Growth.{AddsLast, Exits}
 use Rattle.hoare_law.specs.Growth as growth
@@ -20,7 +20,7 @@ use Rattle.door_place.specs.declared.state.State.TheVariants.{Outside, Inside, A
 
 -- the data: one word of the caller's
 abbrev pub Carried : Type 0
-Carried = Unasked ℕ 1
+Carried = Unconstrained ℕ 1
 
 -- rest and ready ask nothing of the data
 abbrev pub calm : Rest Carried

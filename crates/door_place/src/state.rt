@@ -7,12 +7,12 @@ use crate::codes::{DONE, NO_CONDITION, NOT_INSIDE, NOTHING_HELD};
 use baton_door::step_door::StepDoor;
 use door_frame::place;
 use door_frame::waking::ByCaller;
-use hoare_law::unasked::Unasked;
+use hoare_law::unconstrained::Unconstrained;
 use hoare_law::waits::Waits;
 
 /// The data of the monitor: one word of the caller's, as a rule a pointer to its own data. `rest` and `ready` ask
 /// nothing of it.
-pub type Carried = Unasked<u64, 1>;
+pub type Carried = Unconstrained<u64, 1>;
 
 /// A door whose calls are steps, with one word of the caller's in it.
 pub type Door = StepDoor<Carried>;

@@ -3,17 +3,17 @@ use Rattle.std.proofs.Common.{ℕ, List, [], ◌∷◌, ◌++◌, map, length, �
 use Rattle.std.specs.Prelude.{All}
 use Rattle.std.proofs.lemmas.List.{map-append}
 use Rattle.std.proofs.lemmas.List.Elements.{All-nil, All-cons, All-append}
-use Rattle.hoare_law.specs.declared.unasked.Unasked.{Unasked}
+use Rattle.hoare_law.specs.declared.unconstrained.Unconstrained.{Unconstrained}
 use Rattle.hoare_law.specs.Sizes.{kinds_of}
 use Rattle.door_frame.specs.Places.{DoorId, PlaceOut, IsOut, HasPlace}
 use Rattle.ticket_door.specs.Asked.{TicketDoorId, PlaceAsked, IsAsked, as_out}
 
 -- a place, outside or with a ticket, of a door whose data are without assertions
-abbrev pub IsUnaskedOut : DoorId → PlaceOut (Unasked ℕ 1) → Type 0
-IsUnaskedOut = IsOut (λ s q. Unit {0}) (λ c p s q. Unit {0}) (kinds_of 1 0)
+abbrev pub IsUnconstrainedOut : DoorId → PlaceOut (Unconstrained ℕ 1) → Type 0
+IsUnconstrainedOut = IsOut (λ s q. Unit {0}) (λ c p s q. Unit {0}) (kinds_of 1 0)
 
-abbrev pub IsUnaskedAsking : TicketDoorId → PlaceAsked (Unasked ℕ 1) → Type 0
-IsUnaskedAsking = IsAsked (λ s q. Unit {0}) (λ c p s q. Unit {0}) (kinds_of 1 0)
+abbrev pub IsUnconstrainedAsking : TicketDoorId → PlaceAsked (Unconstrained ℕ 1) → Type 0
+IsUnconstrainedAsking = IsAsked (λ s q. Unit {0}) (λ c p s q. Unit {0}) (kinds_of 1 0)
 
 -- what holds of all elements of a list and of one more holds of the longer list
 pub all-and-one : {X : Type 0} (P : X → Type 0) (xs : List X) (x : X) → All P xs → P x → All P (xs ++ x ∷ [])

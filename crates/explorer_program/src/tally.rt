@@ -10,14 +10,14 @@ use crate::signals::pair_up;
 use crate::starving::dance;
 use crate::trying::{is_tried, try_or_ask};
 use hoare_law::monitor::Monitor;
-use hoare_law::unasked::Unasked;
+use hoare_law::unconstrained::Unconstrained;
 use order_explorer::{Explored, Place, Program};
 use std::alloc::{AllocError, Global};
 use std::sync::Wait;
 use std::sync::atomic::AtomicU64;
 
 /// A number of which nothing is required, with one condition.
-pub type Tally = Unasked<u64, 1>;
+pub type Tally = Unconstrained<u64, 1>;
 
 /// What the threads do over a tally.
 #[derive(Clone, Copy)]

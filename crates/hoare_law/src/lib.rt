@@ -10,5 +10,5 @@ pub mod event;
 pub mod laws;
 pub mod monitor;
 pub mod turn;
-pub mod unasked;
+pub mod unconstrained;
 pub mod waits;

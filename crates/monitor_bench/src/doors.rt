@@ -12,7 +12,7 @@ use crate::turns::{
 };
 use baton_door::door::Door;
 use hoare_law::monitor::Monitor;
-use hoare_law::unasked::Unasked;
+use hoare_law::unconstrained::Unconstrained;
 use plain_schedulers::buffer::Buffer;
 use std::rt::Clock;
 use std::sync::Wait;
@@ -25,18 +25,18 @@ use ticket_door::door::TicketDoor;
 /// A monitor of a counter with one condition, which threads share. (A closure that goes to a thread needs a bound
 /// without a parameter, and a function that is generic over what it does can't pass a closure on. So each load has its
 /// own closure.)
-pub trait OneShared: Monitor<Unasked<u64, 1>> + Sync {}
+pub trait OneShared: Monitor<Unconstrained<u64, 1>> + Sync {}
 
-impl OneShared for Door<Unasked<u64, 1>> {}
+impl OneShared for Door<Unconstrained<u64, 1>> {}
 
-impl OneShared for TicketDoor<Unasked<u64, 1>> {}
+impl OneShared for TicketDoor<Unconstrained<u64, 1>> {}
 
 /// A monitor of a counter with eight conditions, which threads share.
-pub trait EightShared: Monitor<Unasked<u64, 8>> + Sync {}
+pub trait EightShared: Monitor<Unconstrained<u64, 8>> + Sync {}
 
-impl EightShared for Door<Unasked<u64, 8>> {}
+impl EightShared for Door<Unconstrained<u64, 8>> {}
 
-impl EightShared for TicketDoor<Unasked<u64, 8>> {}
+impl EightShared for TicketDoor<Unconstrained<u64, 8>> {}
 
 /// A monitor of a buffer with Hoare's conditions, which threads share.
 pub trait SharedBuffer: Monitor<Buffer<u64>> + Sync {}
@@ -141,7 +141,7 @@ where
 
 // One thread at the last of the places enters, adds one and leaves, `turns` times. Returns an error if there is no
 // place.
-fn alone<const N: usize, R: Wait, M: Monitor<Unasked<u64, N>>>(
+fn alone<const N: usize, R: Wait, M: Monitor<Unconstrained<u64, N>>>(
     rt: &R,
     m: &M,
     places: Vec<M::Out>,

@@ -3,7 +3,7 @@
 ghost use Rattle.std.specs.Prelude.{◌<◌};
 
 use hoare_law::monitor::Monitor;
-use hoare_law::unasked::Unasked;
+use hoare_law::unconstrained::Unconstrained;
 use hoare_law::waits::Waits;
 use std::sync::Wait;
 use std::thread;
@@ -21,7 +21,7 @@ pub struct Visits {
 }
 
 /// The data of their monitor, with three conditions.
-pub type Mixed = Unasked<Visits, 3>;
+pub type Mixed = Unconstrained<Visits, 3>;
 
 // Returns the number after `seed` in a row of numbers without a visible pattern.
 fn draw(seed: u64) -> u64 {
@@ -121,7 +121,7 @@ pub fn unvisited() -> Mixed {
         visits: 0,
         finished: 0,
     };
-    Unasked { value: none }
+    Unconstrained { value: none }
 }
 
 /// Does the work of one thread: that of a worker if `role` is below `WORKERS`, otherwise that of the ninth thread,

@@ -17,7 +17,7 @@ use crate::sleepers::{AlarmLoad, work_alarm};
 use crate::tell;
 use anyhow::Context;
 use hoare_law::data::MonitorData;
-use hoare_law::unasked::Unasked;
+use hoare_law::unconstrained::Unconstrained;
 use plain_schedulers::buffer::Buffer;
 use plain_schedulers::buffer::mesa::MesaBuffer;
 use plain_schedulers::single::Single;
@@ -53,8 +53,8 @@ macro_rules! on_places {
 // Number of cells of the buffer.
 const RING: usize = 16;
 
-fn counter<const N: usize>() -> Unasked<u64, N> {
-    Unasked { value: 0 }
+fn counter<const N: usize>() -> Unconstrained<u64, N> {
+    Unconstrained { value: 0 }
 }
 
 fn ring(alloc: Global) -> io::Result<Buffer<u64>>

@@ -3,13 +3,13 @@ ghost use Rattle.std.specs.Prelude.{All};
 
 use crate::opening::no_memory;
 use hoare_law::monitor::Monitor;
-use hoare_law::unasked::Unasked;
+use hoare_law::unconstrained::Unconstrained;
 use std::rt::Clock;
 use std::sync::Wait;
 use std::time::{Duration, Instant};
 
 /// The data: a counter with one condition.
-pub type Counter = Unasked<u64, 1>;
+pub type Counter = Unconstrained<u64, 1>;
 
 // Makes `turns` attempts to enter. After each that succeeds, adds one and leaves.
 fn try_many<R: Wait, M: Monitor<Counter>>(rt: &R, m: &M, out: M::Out, turns: u64) -> M::Out

@@ -2,13 +2,13 @@
 ghost use Rattle.std.specs.Prelude.{◌<◌, ◌≡◌};
 
 use hoare_law::monitor::Monitor;
-use hoare_law::unasked::Unasked;
+use hoare_law::unconstrained::Unconstrained;
 use hoare_law::waits::Waits;
 use plain_schedulers::buffer::Buffer;
 use std::sync::Wait;
 
 /// Enters, adds one and leaves, `turns` times.
-pub fn add_many<const N: usize, R: Wait, M: Monitor<Unasked<u64, N>>>(
+pub fn add_many<const N: usize, R: Wait, M: Monitor<Unconstrained<u64, N>>>(
     rt: &R,
     m: &M,
     out: M::Out,
@@ -26,7 +26,7 @@ pub fn add_many<const N: usize, R: Wait, M: Monitor<Unasked<u64, N>>>(
 }
 
 /// Waits on condition 0 with `priority`, `turns` times.
-pub fn wait_many<const N: usize, R: Wait, M: Monitor<Unasked<u64, N>>>(
+pub fn wait_many<const N: usize, R: Wait, M: Monitor<Unconstrained<u64, N>>>(
     rt: &R,
     m: &M,
     out: M::Out,
@@ -44,7 +44,7 @@ pub fn wait_many<const N: usize, R: Wait, M: Monitor<Unasked<u64, N>>>(
 }
 
 /// Signals condition 0 until `turns` processes were resumed.
-pub fn signal_many<const N: usize, R: Wait, M: Monitor<Unasked<u64, N>>>(
+pub fn signal_many<const N: usize, R: Wait, M: Monitor<Unconstrained<u64, N>>>(
     rt: &R,
     m: &M,
     out: M::Out,
@@ -72,7 +72,7 @@ pub fn signal_many<const N: usize, R: Wait, M: Monitor<Unasked<u64, N>>>(
 }
 
 /// Waits on `condition` and then signals the next, `turns` times, as a link of a chain. The last link doesn't signal.
-pub fn link_many<const N: usize, R: Wait, M: Monitor<Unasked<u64, N>>>(
+pub fn link_many<const N: usize, R: Wait, M: Monitor<Unconstrained<u64, N>>>(
     rt: &R,
     m: &M,
     out: M::Out,
@@ -97,7 +97,7 @@ pub fn link_many<const N: usize, R: Wait, M: Monitor<Unasked<u64, N>>>(
 }
 
 // Returns true if a process waits on each condition.
-fn is_chain_ready<const N: usize, M: Monitor<Unasked<u64, N>>>(m: &M, inside: &M::In) -> bool
+fn is_chain_ready<const N: usize, M: Monitor<Unconstrained<u64, N>>>(m: &M, inside: &M::In) -> bool
     requires { M.is_of_in m.now inside.now }
 {
     let lists = m.lists(inside);
@@ -105,7 +105,7 @@ fn is_chain_ready<const N: usize, M: Monitor<Unasked<u64, N>>>(m: &M, inside: &M
 }
 
 /// Signals the first link of a chain when all its links wait, `turns` times.
-pub fn pull_many<const N: usize, R: Wait, M: Monitor<Unasked<u64, N>>>(
+pub fn pull_many<const N: usize, R: Wait, M: Monitor<Unconstrained<u64, N>>>(
     rt: &R,
     m: &M,
     out: M::Out,

@@ -2,12 +2,12 @@
 ghost use Rattle.std.specs.Prelude.{◌≡◌};
 
 use hoare_law::monitor::Monitor;
-use hoare_law::unasked::Unasked;
+use hoare_law::unconstrained::Unconstrained;
 use hoare_law::waits::Waits;
 use std::sync::Wait;
 
 /// A number without assertions, and one condition.
-pub type Tally = Unasked<u64, 1>;
+pub type Tally = Unconstrained<u64, 1>;
 
 /// Appends a decimal digit to the tally, modulo 2^64.
 pub fn write_digit<M: Monitor<Tally>>(m: &M, inside: M::In, digit: u64) -> M::In

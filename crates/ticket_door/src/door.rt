@@ -15,7 +15,7 @@ use std::marker::Model;
 /// returns them.
 ///
 /// ```rust
-/// let data = Unasked::<u64, 1> { value: 41 };
+/// let data = Unconstrained::<u64, 1> { value: 41 };
 /// let (door, mut outs) = TicketDoor::make(alloc, data, 2).map_err(|(_, refused)| refused)?;
 /// let asked = door.ask(outs.pop().unwrap()); // non-blocking
 /// let mut inside = door.come_in(&rt, asked);

@@ -8,7 +8,7 @@ use crate::tests::rows::tries::both_try;
 use any_door::DoorKind;
 use baton_door::door::Door;
 use hoare_law::monitor::Monitor;
-use hoare_law::unasked::Unasked;
+use hoare_law::unconstrained::Unconstrained;
 use std::alloc::Global;
 use std::process::Abort;
 use std::sync::Wait;
@@ -24,7 +24,7 @@ fn refused_baton<const N: usize, R: Abort>(
     alloc: Global,
     places: usize,
 ) -> (u64, MakeRefused) {
-    let Err((data, refused)) = Door::make(alloc, Unasked::<u64, N> { value: 7 }, places) else {
+    let Err((data, refused)) = Door::make(alloc, Unconstrained::<u64, N> { value: 7 }, places) else {
         panic!(rt; "a door of no place, of too many, or of nine conditions")
     };
     (data.value, refused)
@@ -37,7 +37,7 @@ fn refused_ticket<const N: usize, R: Abort>(
     alloc: Global,
     places: usize,
 ) -> (u64, MakeRefused) {
-    let Err((data, refused)) = TicketDoor::make(alloc, Unasked::<u64, N> { value: 7 }, places)
+    let Err((data, refused)) = TicketDoor::make(alloc, Unconstrained::<u64, N> { value: 7 }, places)
     else {
         panic!(rt; "a door of no place, of too many, or of nine conditions")
     };

@@ -5,7 +5,7 @@ use crate::tests::compared::expect_same;
 use crate::tests::row::run;
 use any_door::DoorKind;
 use hoare_law::monitor::Monitor;
-use hoare_law::unasked::Unasked;
+use hoare_law::unconstrained::Unconstrained;
 use hoare_law::waits::Waits;
 use std::alloc::Global;
 use std::process::Abort;
@@ -18,7 +18,7 @@ const PLACES: usize = 64;
 const CONDITIONS: usize = 8;
 
 /// The numbers of the places that resumed, in order, and eight conditions.
-type Order = Unasked<Vec<usize>, 8>;
+type Order = Unconstrained<Vec<usize>, 8>;
 
 // Returns the number of waiters on all conditions.
 fn count_waiting<M: Monitor<Order>>(m: &M, inside: &M::In) -> usize

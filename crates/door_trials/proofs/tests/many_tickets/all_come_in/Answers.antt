@@ -3,18 +3,18 @@ use Rattle.std.specs.Prelude.{All}
 use Rattle.std.proofs.lemmas.List.Elements.{All-tail}
 use Rattle.door_frame.specs.Places.{HasPlace}
 use Rattle.ticket_door.specs.Asked.{as_out}
-use Rattle.door_trials.proofs.Many.{IsUnaskedOut, IsUnaskedAsking, all-and-one, gives-up-one, all-there}
+use Rattle.door_trials.proofs.Many.{IsUnconstrainedOut, IsUnconstrainedAsking, all-and-one, gives-up-one, all-there}
 use Rattle.door_trials.proofs.tests.many_tickets.all_come_in.Goals as goal
 
 pub loop-asked-preserved : goal.loop-asked-preserved
 loop-asked-preserved g c =
     let inv = c.loop-asked.invariant in
     let outs = c.loop-asked.outs.items in (
-      All-tail (IsUnaskedAsking c.args.door.now) c.in-Some.asked c.pop_front.new.self.items
-          (subst (All (IsUnaskedAsking c.args.door.now)) c.in-Some.ensures.items inv.0),
+      All-tail (IsUnconstrainedAsking c.args.door.now) c.in-Some.asked c.pop_front.new.self.items
+          (subst (All (IsUnconstrainedAsking c.args.door.now)) c.in-Some.ensures.items inv.0),
       rw c.push_reserved-in-Some.ensures.items
-          (all-and-one (IsUnaskedOut c.args.door.now.door) outs c.give_up.result inv.1
-          (subst (λ d. IsUnaskedOut d.door c.give_up.result) c.deref-in-Some.ensures c.give_up.ensures.of)),
+          (all-and-one (IsUnconstrainedOut c.args.door.now.door) outs c.give_up.result inv.1
+          (subst (λ d. IsUnconstrainedOut d.door c.give_up.result) c.deref-in-Some.ensures c.give_up.ensures.of)),
       search rules,
       search rules,
       λ k at. rw c.push_reserved-in-Some.ensures.items

@@ -3,14 +3,14 @@ use Rattle.std.specs.Prelude.{All}
 use Rattle.std.specs.VecDeque.{deque_len}
 use Rattle.door_frame.specs.Places.{HasPlace}
 use Rattle.ticket_door.specs.Asked.{as_out}
-use Rattle.door_trials.proofs.Many.{IsUnaskedOut, IsUnaskedAsking}
+use Rattle.door_trials.proofs.Many.{IsUnconstrainedOut, IsUnconstrainedAsking}
 use Rattle.door_trials.proofs.tests.many_tickets.all_come_in.Given as goal
 
 -- each place has a ticket or is outside again
 abbrev pub invariant-loop-asked : goal.invariant-loop-asked
 invariant-loop-asked g l =
-    All (IsUnaskedAsking l.door) l.asks.items
-    × All (IsUnaskedOut l.door.door) l.outs.items
+    All (IsUnconstrainedAsking l.door) l.asks.items
+    × All (IsUnconstrainedOut l.door.door) l.outs.items
     × (deque_len l.asks + vec_len l.outs ≤ vec_capacity l.outs) ×
     (deque_len l.asks + vec_len l.came ≤ vec_capacity l.came)
     ×

@@ -1,5 +1,5 @@
 use Rattle.std.proofs.Common.{rules, ℕ, arith, subst, sym}
-use Rattle.hoare_law.specs.declared.unasked.Unasked.{Unasked}
+use Rattle.hoare_law.specs.declared.unconstrained.Unconstrained.{Unconstrained}
 use Rattle.hoare_law.specs.Events.{opened}
 use Rattle.hoare_law.specs.Sizes.{sizes_of}
 use Rattle.door_frame.specs.Places.{HasPlace}
@@ -11,6 +11,6 @@ close-tally-requires-clause-places g c κs =
     λ k below.
     let made = c.in-Ok.ensures.made in
     let all =
-    has-all {D = Unasked ℕ 1} k c.in-Ok.door.door 0 64 (opened (sizes_of 1 0 64) (record { value = 0 }))
+    has-all {D = Unconstrained ℕ 1} k c.in-Ok.door.door 0 64 (opened (sizes_of 1 0 64) (record { value = 0 }))
     (omega arith) (search rules) in
     c.all_come_in.ensures.places k (c.all_ask.ensures.places k (subst (HasPlace k) (sym c.in-Ok.ensures.places) all))

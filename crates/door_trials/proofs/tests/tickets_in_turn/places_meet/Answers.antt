@@ -1,13 +1,13 @@
 use Rattle.std.proofs.Common.{subst}
 use Rattle.std.specs.Prelude.{All}
 use Rattle.std.proofs.lemmas.List.Elements.{All-take}
-use Rattle.door_trials.proofs.Many.{IsUnaskedOut, all-and-one}
+use Rattle.door_trials.proofs.Many.{IsUnconstrainedOut, all-and-one}
 use Rattle.door_trials.proofs.tests.tickets_in_turn.places_meet.Goals as goal
 
 -- both were given out, and both return from the meeting
 pub close-tally-requires-clause-of : goal.close-tally-requires-clause-of
 close-tally-requires-clause-of g c κs =
-    let IsOurs = IsUnaskedOut c.in-Ok.door.door in
+    let IsOurs = IsUnconstrainedOut c.in-Ok.door.door in
     let one : All IsOurs c.pop.new.self.items =
     rw c.pop.ensures.rest (All-take IsOurs _ c.in-Ok.outs.items c.in-Ok.ensures.of) in
     let none : All IsOurs c.pop-2.new.self.items =
@@ -15,7 +15,7 @@ close-tally-requires-clause-of g c κs =
     let first : All IsOurs c.push_reserved.new.self.items =
     rw c.push_reserved.ensures.items
     (all-and-one IsOurs c.pop-2.new.self.items c.meet-b.result.0 none
-    (subst (λ d. IsUnaskedOut d.door c.meet-b.result.0) c.deref-7.ensures c.meet-b.ensures.a)) in
+    (subst (λ d. IsUnconstrainedOut d.door c.meet-b.result.0) c.deref-7.ensures c.meet-b.ensures.a)) in
     rw c.push_reserved-2.ensures.items
     (all-and-one IsOurs c.push_reserved.new.self.items c.meet-b.result.1 first
-    (subst (λ d. IsUnaskedOut d.door c.meet-b.result.1) c.deref-7.ensures c.meet-b.ensures.b))
+    (subst (λ d. IsUnconstrainedOut d.door c.meet-b.result.1) c.deref-7.ensures c.meet-b.ensures.b))

@@ -5,12 +5,12 @@ use crate::waits::Waits;
 /// A value with assertions that always hold, for tests and measures. It has `CONDITIONS` conditions, all Hoare's. Every
 /// value is at rest, and ready for every waiter.
 #[derive(Clone, Copy, Debug, Drop, PartialEq, Eq)]
-pub struct Unasked<T, const CONDITIONS: usize> {
+pub struct Unconstrained<T, const CONDITIONS: usize> {
     /// The value. Each is allowed.
     pub value: T,
 }
 
-impl<T, const COUNT: usize> MonitorData for Unasked<T, COUNT> {
+impl<T, const COUNT: usize> MonitorData for Unconstrained<T, COUNT> {
     ghost use Rattle.std.specs.Prelude.{⊤};
 
     const CONDITIONS: usize = COUNT;

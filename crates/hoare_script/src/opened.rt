@@ -3,7 +3,7 @@ ghost use Rattle.std.specs.Prelude.{◌≡◌, ◌≤◌, MatchResult, None, Som
 ghost use Rattle.hoare_law.specs.declared.event.History.{History};
 ghost use Rattle.hoare_law.specs.Events.{opened};
 ghost use Rattle.wait_book.specs.Contents.{IsOf, make_refusal};
-ghost use Rattle.wait_book.specs.Numbers.{number_called};
+ghost use Rattle.wait_book.specs.Numbers.{notified_position};
 ghost use Rattle.hoare_script.specs.declared.lines.Command.TheVariants as commands;
 ghost use Rattle.hoare_script.specs.Lines.{sizes_in};
 ghost use Rattle.hoare_script.specs.Answers.{answer_to, history_after};
@@ -68,14 +68,14 @@ impl Opened {
         }
     }
 
-    /// Returns the number of `place` among the notified places that haven't resumed yet, as `Book::number_called`
+    /// Returns the number of `place` among the notified places that haven't resumed yet, as `Book::notified_position`
     /// counts them: 1 for the place that resumes first, and 0 for a place that isn't among them. It is at most 64.
-    pub fn number_called(&self, place: usize) -> usize
+    pub fn notified_position(&self, place: usize) -> usize
         ensures of { (h : History (Unit {0})) → IsOf self.now h
-            → result ≡ number_called h.events place }
+            → result ≡ notified_position h.events place }
         ensures few { result ≤ 64 }
     {
-        self.book.number_called(place)
+        self.book.notified_position(place)
     }
 
     // Does a step, and returns its answer.

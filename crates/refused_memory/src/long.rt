@@ -108,7 +108,7 @@ fn agrees(book: &Book, lot: u64) -> bool {
     if condition >= book.conditions() || place >= book.places() {
         return false;
     }
-    let is_called_outside = book.outside(place) && book.number_called(place) > 0;
+    let is_called_outside = book.outside(place) && book.notified_position(place) > 0;
     !is_called_outside && book.queue(condition) == book.first(condition).is_some()
 }
 

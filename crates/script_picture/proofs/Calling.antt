@@ -11,7 +11,7 @@ use Rattle.hoare_law.specs.Turns.{turn}
 use Rattle.wait_book.specs.declared.steps.Step.{Step}
 use Rattle.wait_book.specs.declared.steps.Step.TheVariants.{Enter, Wait, Signal, Pass, Leave, Notify, Broadcast}
 use Rattle.wait_book.specs.declared.steps.StepRefused.{StepRefused}
-use Rattle.wait_book.specs.Numbers.{number_called}
+use Rattle.wait_book.specs.Numbers.{notified_position}
 use Rattle.wait_book.specs.Stepping.{condition_refusal, kind_refusal, refusal_of, after_step}
 use Rattle.hoare_script.specs.Answers.{turn_answer, step_answer, history_by, answer_to, history_after}
 use Rattle.hoare_script.specs.declared.lines.Command.{Command}
@@ -80,15 +80,15 @@ call_numbered n l after off same is =
 
 -- an entering place notifies no place
 enter_calls : (h : Log) (j k : ℕ)
-    → is_call (lane_of h k) (lane_beside (number_called (with_event h (Admit j tt)).events k) (lane_of h k)) ≡ true → ⊥
+    → is_call (lane_of h k) (lane_beside (notified_position (with_event h (Admit j tt)).events k) (lane_of h k)) ≡ true → ⊥
 enter_calls h j k is = by (is_among k (called h.events)) refl
   where
     by : (t : Bool) → is_among k (called h.events) ≡ t → ⊥
     by true on =
-        call_numbered (number_called h.events k) (lane_of h k) _ (number_some 0 k (called h.events) on)
-        (lane_beside-last (number_called h.events k) (number_called h.events k) (newest (own k h.events))) is
+        call_numbered (notified_position h.events k) (lane_of h k) _ (number_some 0 k (called h.events) on)
+        (lane_beside-last (notified_position h.events k) (notified_position h.events k) (newest (own k h.events))) is
     by false off =
-        let none : number_called (with_event h (Admit j tt)).events k ≡ 0 =
+        let none : notified_position (with_event h (Admit j tt)).events k ≡ 0 =
         number_none 0 k (called (with_event h (Admit j tt)).events)
         (uncalled-push h (Admit j tt) k refl (is_among-less j k (called h.events) off)) in
         call_unnumbered (lane_of h k) (ap (λ (n : ℕ). is_call (lane_of h k) (lane_beside n (lane_of h k))) (sym none)
@@ -103,7 +103,7 @@ enter_answered n j k before (Return i) never is = call_beside (i == k) before _ 
 
 -- a place whose step notifies has the turn
 acts : (h : Log) (s : Step) (k : ℕ) → refusal_of h s ≡ None
-    → is_call (lane_of h k) (lane_answered s (number_called (after_step h s).events k) k (lane_of h k)
+    → is_call (lane_of h k) (lane_answered s (notified_position (after_step h s).events k) k (lane_of h k)
     (turn_answer (turn (after_step h s).events))) ≡ true → turn h.events ≡ Held (actor s)
 acts h (Enter j) k r is =
     absurd (enter_answered _ j k (lane_of h k) (turn (after_step h (Enter j)).events) (enter_calls h j k) is)
@@ -125,7 +125,7 @@ unmade false j is = refl
 
 -- what a place does after a command, by a row with the answer by the history
 abbrev lane_said : Log → Command → ℕ → Lane
-lane_said h c k = lane_commanded c (number_called (history_after h c).events k) k (lane_of h k) (answer_to h c)
+lane_said h c k = lane_commanded c (notified_position (history_after h c).events k) k (lane_of h k) (answer_to h c)
 
 -- a command by which a place is notified is of the place inside
 calls_inside : (h : Log) (c : Command) (k from : ℕ)
@@ -139,7 +139,7 @@ calls_inside h (Do s) k from is =
   where
     by : (o : Option StepRefused) → refusal_of h s ≡ o
         → is_call (lane_of h k)
-        (lane_answered s (number_called (history_by h s o).events k) k (lane_of h k) (step_answer h s o)) ≡ true
+        (lane_answered s (notified_position (history_by h s o).events k) k (lane_of h k) (step_answer h s o)) ≡ true
         → turn h.events ≡ Held (actor s)
     by None r call = acts h s k r call
     by (Some r) refused call = absurd (call_itself (lane_of h k) call)
@@ -178,7 +178,7 @@ Calls-at c seen i d k lane from seen_is below is_told follows calls =
     let row_calls : caller row k lane ≡ Some from =
     ap (λ (l : List Row). caller (slice_index_or l i d) k lane) (sym seen_is) ∙ calls in
     let said : lane_said g row.command k ≡ lane_after row k lane =
-    ap (lane_commanded row.command (number_called (history_after g row.command).events k) k (lane_of g k))
+    ap (lane_commanded row.command (notified_position (history_after g row.command).events k) k (lane_of g k))
     (sym answered.0)
     ∙ ap (λ (n : ℕ). lane_commanded row.command n k (lane_of g k) row.answer) (sym (answered.1 k))
     ∙ ap (lane_after row k) (sym follows.does) in

@@ -31,7 +31,7 @@ use Rattle.hoare_law.proofs.Tests.{both_true, eq_swap}
 use Rattle.hoare_law.proofs.Waiters.{Waits, LastSignals, All-waiting, All-urgent}
 use Rattle.wait_book.specs.declared.waiter.Waiter.{Waiter}
 use Rattle.wait_book.specs.Contents.{Contents, IsOf, hoare_of, times, times_in, times_in_hand, wait_of}
-use Rattle.wait_book.specs.Numbers.{number_called, number_from}
+use Rattle.wait_book.specs.Numbers.{notified_position, position_from}
 use Rattle.wait_book.proofs.Times.{eq_self, one_apart}
 use Rattle.wait_book.proofs.Waiters.{on, places}
 use Rattle.script_picture.specs.declared.chart.Lane.{Lane}
@@ -67,7 +67,7 @@ abbrev pub lane_as : ℕ → Log → ℕ → Lane
 lane_as n h k = lane_last n (newest (own k h.events))
 
 abbrev pub lane_of : Log → ℕ → Lane
-lane_of h k = lane_as (number_called h.events k) h k
+lane_of h k = lane_as (notified_position h.events k) h k
 
 -- of the numbers of a place that began to wait, only the latest determines what it does
 beside_numbered : (n m c p : ℕ) → lane_numbered n c p ≡ lane_beside n (lane_numbered m c p)
@@ -120,23 +120,23 @@ is_among k [] = false
 is_among k (e ∷ es) = place_of e == k || is_among k es
 
 -- the number of a place that isn't among these, and of a place that is
-pub number_none : (n k : ℕ) (es : List Act) → is_among k es ≡ false → number_from n k (map place_of es) ≡ 0
+pub number_none : (n k : ℕ) (es : List Act) → is_among k es ≡ false → position_from n k (map place_of es) ≡ 0
 number_none n k [] is = refl
 number_none n k (e ∷ es) is = by (place_of e == k) is (number_none (n + 1) k es)
   where
     by : (t : Bool) → (t || is_among k es) ≡ false
-        → (is_among k es ≡ false → number_from (n + 1) k (map place_of es) ≡ 0)
-        → cond t (n + 1) (number_from (n + 1) k (map place_of es)) ≡ 0
+        → (is_among k es ≡ false → position_from (n + 1) k (map place_of es) ≡ 0)
+        → cond t (n + 1) (position_from (n + 1) k (map place_of es)) ≡ 0
     by true off rest = absurd (cc)
     by false off rest = rest off
 
-pub number_some : (n k : ℕ) (es : List Act) → is_among k es ≡ true → (number_from n k (map place_of es) == 0) ≡ false
+pub number_some : (n k : ℕ) (es : List Act) → is_among k es ≡ true → (position_from n k (map place_of es) == 0) ≡ false
 number_some n k [] is = absurd (cc)
 number_some n k (e ∷ es) is = by (place_of e == k) is (number_some (n + 1) k es)
   where
     by : (t : Bool) → (t || is_among k es) ≡ true
-        → (is_among k es ≡ true → (number_from (n + 1) k (map place_of es) == 0) ≡ false)
-        → (cond t (n + 1) (number_from (n + 1) k (map place_of es)) == 0) ≡ false
+        → (is_among k es ≡ true → (position_from (n + 1) k (map place_of es) == 0) ≡ false)
+        → (cond t (n + 1) (position_from (n + 1) k (map place_of es)) == 0) ≡ false
     by true on rest = grind (arith, nat_tests)
     by false on rest = rest on
 
@@ -228,24 +228,24 @@ waits_uncalled h k c p legal d = among_none k (called h.events)
 -- a place that is inside does nothing else
 pub inside_last : (h : Log) (k : ℕ) → turn h.events ≡ Held k → lanes.Inside ≡ lane_of h k
 inside_last h k d =
-    let n : ℕ = number_called h.events k in
+    let n : ℕ = notified_position h.events k in
     let r : (e : Act) × (newest (own k h.events) ≡ Some e) × (is_inside e ≡ true) = own-held h.events k d in
     (told n n r.0).inside r.2 ∙ ap (lane_last n) (sym r.1)
 
 pub Does-last : (h : Log) (k : ℕ) (lane : Lane) → IsLegal h → Does h k lane → lane ≡ lane_of h k
 unfolding outside
-Does-last h k lanes.Outside legal d = out_is (number_called h.events k) (newest (own k h.events)) d
+Does-last h k lanes.Outside legal d = out_is (notified_position h.events k) (newest (own k h.events)) d
 Does-last h k lanes.Inside legal d = inside_last h k d
 Does-last h k (lanes.Waiting c p) legal d =
     let w : Waits c h.events (Wait k c p tt) =
     All-contains (Waits c h.events) (waiting c h.events) (Wait k c p tt) (All-waiting c h.events) d in
     ap (λ (n : ℕ). lane_numbered n c p) (sym (number_none 0 k (called h.events) (waits_uncalled h k c p legal d)))
-    ∙ ap (lane_last (number_called h.events k)) (sym w.last)
+    ∙ ap (lane_last (notified_position h.events k)) (sym w.last)
 Does-last h k lanes.Signalling legal d =
     let r : LastSignals h.events k = All-contains (LastSignals h.events) (urgent h.events) k (All-urgent h.events) d in
-    (told (number_called h.events k) 0 r.0).signals r.2 ∙ ap (lane_last (number_called h.events k)) (sym r.1)
+    (told (notified_position h.events k) 0 r.0).signals r.2 ∙ ap (lane_last (notified_position h.events k)) (sym r.1)
 Does-last h k (lanes.Called c p m) legal d =
-    let n : ℕ = number_called h.events k in
+    let n : ℕ = notified_position h.events k in
     let w : IsCalled h (Wait k c p tt) =
     All-contains (IsCalled h) (called h.events) (Wait k c p tt) (All-called h legal) d.0 in
     let some : (n == 0) ≡ false =
@@ -341,7 +341,7 @@ Does-something b h k o claimed = by (outside k h.events) refl
     by_call false l n m some =
         let r : (w : Waiter) × (w.place ≡ k) × Contains (map wait_of b.called) (wait_of w) =
         among_called k b.called (some_of (times k (places b.called)) l) in (
-          lanes.Called r.0.condition r.0.priority (number_called h.events k),
+          lanes.Called r.0.condition r.0.priority (notified_position h.events k),
           (
             subst (λ (es : List Act). Contains es (Wait k r.0.condition r.0.priority tt)) (sym o.called_are)
                 (subst (λ (j : ℕ). Contains (map wait_of b.called) (Wait j r.0.condition r.0.priority tt)) r.1 r.2),

@@ -11,7 +11,7 @@ use Rattle.hoare_law.specs.declared.event.Sizes.{Sizes}
 use Rattle.wait_book.specs.declared.steps.MakeRefused.{MakeRefused}
 use Rattle.wait_book.specs.declared.steps.MakeRefused.TheVariants.{BadPlaces, BadConditions}
 use Rattle.wait_book.specs.Contents.{Contents, IsOf, make_refusal}
-use Rattle.wait_book.specs.Numbers.{number_called}
+use Rattle.wait_book.specs.Numbers.{notified_position}
 use Rattle.hoare_script.specs.Answers.{answer_to, history_after}
 use Rattle.hoare_script.specs.declared.answers.Answer.{Answer}
 use Rattle.hoare_script.specs.declared.lines.Command.{Command}
@@ -36,7 +36,7 @@ few_places n is = by (leb 1 n.places) (leb n.places 64) refl is
 pub answered_row : (h : Log) (rows : List Row) (old new : Contents) (command : Command) (answer : Answer)
     (numbers : List ℕ) → h.sizes.places ≤ 64
     → ((g : Log) → IsOf old g → (answer ≡ answer_to g command) × IsOf new (history_after g command))
-    → ((g : Log) → IsOf new g → g.sizes.places ≤ 64 → (k : ℕ) → slice_index_or numbers k 0 ≡ number_called g.events k)
+    → ((g : Log) → IsOf new g → g.sizes.places ≤ 64 → (k : ℕ) → slice_index_or numbers k 0 ≡ notified_position g.events k)
     → Answered h rows → IsOf old (after_rows h rows)
     → Answered h (rows ++ record { command = command; answer = answer; numbers = numbers } ∷ [])
     × IsOf new (after_rows h (rows ++ record { command = command; answer = answer; numbers = numbers } ∷ []))
@@ -57,7 +57,7 @@ answered_row h rows old new command answer numbers few told numbered answered of
 -- a place beyond the last isn't among the notified, and has no number
 pub number-beyond : (b : Contents) (h : Log) (numbers : List ℕ) (k : ℕ) → IsOf b h → h.sizes.places ≤ 64
     → length numbers ≡ 64 → 64 ≤ k
-    → slice_index_or numbers k 0 ≡ number_called h.events k
+    → slice_index_or numbers k 0 ≡ notified_position h.events k
 number-beyond b h numbers k o few long beyond =
     get_or_past numbers k 0 (omega (arith, long, beyond))
     ∙ sym (number_none 0 k (called h.events) (among_none k (called h.events)

@@ -21,7 +21,7 @@ use Rattle.wait_book.specs.declared.steps.StepRefused.{StepRefused}
 use Rattle.wait_book.specs.declared.steps.StepRefused.TheVariants.{NoPlace, NotInside}
 use Rattle.wait_book.specs.Stepping.{is_held_by, kind_refusal, refusal_of, after_signal, after_pass, after_notify}
 use Rattle.wait_book.specs.Stepping.{after_broadcast, after_claim, settled, after_step}
-use Rattle.wait_book.specs.Numbers.{number_called}
+use Rattle.wait_book.specs.Numbers.{notified_position}
 use Rattle.wait_book.proofs.Histories.{IsOf-opened}
 use Rattle.hoare_script.specs.Answers.{turn_answer, step_answer, history_by, answer_to, history_after}
 use Rattle.hoare_script.specs.declared.lines.Command.{Command}
@@ -73,7 +73,7 @@ claimed-settled h = subst IsClaimed (sym (turn-claim h (turn h.events) refl)) (i
 -- what place k does after the step that h ends with is given by the step, its answer and the number of k among the
 -- notified
 abbrev IsLane : Log → Step → ℕ → Lane → Type 0
-IsLane h s k before = lane_of h k ≡ lane_answered s (number_called h.events k) k before (turn_answer (turn h.events))
+IsLane h s k before = lane_of h k ≡ lane_answered s (notified_position h.events k) k before (turn_answer (turn h.events))
 
 -- if the lanes are right after the event of a step, they are right after the owed place resumed
 left_claim : (n : ℕ) (h : Log) (s : Step) (k : ℕ) (before : Lane) (t : Turn) → IsGivenUp t
@@ -88,11 +88,11 @@ left_claim n h s k before (Return j) g l =
 
 -- an event that releases the monitor, and the place that then resumes
 left_by : (h : Log) (s : Step) (e : Act) (k : ℕ) → is_inside e ≡ false → place_of e ≡ actor s
-    → ((actor s == k) ≡ true → lane_by (number_called (settled (with_event h e)).events k) e ≡ left_as s)
+    → ((actor s == k) ≡ true → lane_by (notified_position (settled (with_event h e)).events k) e ≡ left_as s)
     → IsLane (settled (with_event h e)) s k (lane_of h k)
 left_by h s e k is same own_is =
     let g : Log = with_event h e in
-    let n : ℕ = number_called (settled g).events k in
+    let n : ℕ = notified_position (settled g).events k in
     left_claim n g s k (lane_of h k) (turn g.events) (given_up-left h e is)
     (lane_as-push n h e k ∙ ap (λ (j : ℕ). cond (j == k) (lane_by n e) (lane_as n h k)) same
     ∙ by n (actor s == k) own_is)
@@ -101,13 +101,13 @@ left_by h s e k is same own_is =
     by : (n : ℕ) (t : Bool) → (t ≡ true → lane_by n e ≡ left_as s)
         → cond t (lane_by n e) (lane_as n h k) ≡ cond t (left_as s) (lane_beside n (lane_of h k))
     by n true own_as = own_as refl
-    by n false own_as = lane_beside-last n (number_called h.events k) (newest (own k h.events))
+    by n false own_as = lane_beside-last n (notified_position h.events k) (newest (own k h.events))
 
 -- an event that leaves its place inside
 stays_by : (h : Log) (s : Step) (e : Act) (k : ℕ) → place_of e ≡ actor s → ((n : ℕ) → lane_by n e ≡ lanes.Inside)
     → ((us : List ℕ) (ws : List Act) → turn_by e us ws ≡ Held (actor s)) → IsLane (with_event h e) s k (lane_of h k)
 stays_by h s e k same inside held =
-    let n : ℕ = number_called (with_event h e).events k in
+    let n : ℕ = notified_position (with_event h e).events k in
     lane_as-push n h e k ∙ ap (λ (j : ℕ). cond (j == k) (lane_by n e) (lane_as n h k)) same
     ∙ ap (λ (l : Lane). cond (actor s == k) l (lane_as n h k)) (inside n) ∙ by n (actor s == k)
     ∙ ap (λ (t : Turn). lane_answered s n k (lane_of h k) (turn_answer t)) (sym (turn-with h e ∙ held _ _))
@@ -115,18 +115,18 @@ stays_by h s e k same inside held =
     by : (n : ℕ) (t : Bool) → cond t lanes.Inside (lane_as n h k)
         ≡ cond t lanes.Inside (cond t (left_as s) (lane_beside n (lane_of h k)))
     by n true = refl
-    by n false = lane_beside-last n (number_called h.events k) (newest (own k h.events))
+    by n false = lane_beside-last n (notified_position h.events k) (newest (own k h.events))
 
 -- if nothing happens, the acting place stays inside
 stays_so : (h : Log) (s : Step) (k : ℕ) → turn h.events ≡ Held (actor s) → IsLane h s k (lane_of h k)
 stays_so h s k held =
     by (actor s == k) refl
-    ∙ ap (λ (t : Turn). lane_answered s (number_called h.events k) k (lane_of h k) (turn_answer t)) (sym held)
+    ∙ ap (λ (t : Turn). lane_answered s (notified_position h.events k) k (lane_of h k) (turn_answer t)) (sym held)
   where
     by : (t : Bool) → (actor s == k) ≡ t
-        → lane_of h k ≡ cond t lanes.Inside (cond t (left_as s) (lane_beside (number_called h.events k) (lane_of h k)))
+        → lane_of h k ≡ cond t lanes.Inside (cond t (left_as s) (lane_beside (notified_position h.events k) (lane_of h k)))
     by true is = sym (inside_last h k (held ∙ ap Held (eqb-true (actor s) k is)))
-    by false is = lane_beside-last (number_called h.events k) (number_called h.events k) (newest (own k h.events))
+    by false is = lane_beside-last (notified_position h.events k) (notified_position h.events k) (newest (own k h.events))
 
 -- the acting place has the turn
 
@@ -153,7 +153,7 @@ uncalled_claim h k (Return j) off = uncalled-push h (event.Back j tt) k refl (is
 
 -- nor is a place that begins to wait
 waits_as : (h : Log) (j c p k : ℕ) → (j == k) ≡ true
-    → lane_by (number_called (settled (with_event h (event.Wait j c p tt))).events k) (event.Wait j c p tt)
+    → lane_by (notified_position (settled (with_event h (event.Wait j c p tt))).events k) (event.Wait j c p tt)
     ≡ lanes.Waiting c p
 waits_as h j c p k is =
     let g : Log = with_event h (event.Wait j c p tt) in
@@ -194,13 +194,13 @@ stepped h (Broadcast j c) k r = by (waiting c h.events)
 -- what a place does after a command, by its answer and by the place's number among the notified then
 pub lane_of-after : (h : Log) (c : Command) (k : ℕ)
     → lane_of (history_after h c) k
-    ≡ lane_commanded c (number_called (history_after h c).events k) k (lane_of h k) (answer_to h c)
+    ≡ lane_commanded c (notified_position (history_after h c).events k) k (lane_of h k) (answer_to h c)
 unfolding history_after answer_to
 lane_of-after h (Do s) k = by (refusal_of h s) refl
   where
     by : (o : Option StepRefused) → refusal_of h s ≡ o
         → lane_of (history_by h s o) k
-        ≡ lane_answered s (number_called (history_by h s o).events k) k (lane_of h k) (step_answer h s o)
+        ≡ lane_answered s (notified_position (history_by h s o).events k) k (lane_of h k) (step_answer h s o)
     by None is = stepped h s k is
     by (Some r) is = refl
 lane_of-after h (Queue c) k = refl
@@ -288,7 +288,7 @@ pub answered_lane : (h : Log) (row : Row) (k : ℕ) → IsAnswered h row
     → lane_after row k (lane_of h k) ≡ lane_of (history_after h row.command) k
 answered_lane h row k answered =
     ap (λ (n : ℕ). lane_commanded row.command n k (lane_of h k) row.answer) (answered.1 k)
-    ∙ ap (lane_commanded row.command (number_called (history_after h row.command).events k) k (lane_of h k)) answered.0
+    ∙ ap (lane_commanded row.command (notified_position (history_after h row.command).events k) k (lane_of h k)) answered.0
     ∙ sym (lane_of-after h row.command k)
 
 -- lanes that are moved past a row show the history after it

@@ -12,7 +12,7 @@ use Rattle.hoare_law.specs.Legal.{IsLegal}
 use Rattle.hoare_law.specs.Turns.{turn, urgent, outside}
 use Rattle.hoare_law.specs.Waiting.{waiting}
 use Rattle.wait_book.specs.Contents.{Contents, IsOf}
-use Rattle.wait_book.specs.Numbers.{number_called}
+use Rattle.wait_book.specs.Numbers.{notified_position}
 use Rattle.hoare_script.specs.Answers.{answer_to, history_after}
 use Rattle.hoare_script.specs.declared.answers.Answer.{Answer}
 use Rattle.hoare_script.specs.declared.lines.Command.{Command}
@@ -34,7 +34,7 @@ Does h k lanes.Outside = outside k h.events ≡ true
 Does h k lanes.Inside = turn h.events ≡ turns.Held k
 Does h k (lanes.Waiting c p) = Contains (waiting c h.events) (Wait k c p tt)
 Does h k lanes.Signalling = Contains (urgent h.events) k
-Does h k (lanes.Called c p n) = Contains (called h.events) (Wait k c p tt) × (n ≡ number_called h.events k)
+Does h k (lanes.Called c p n) = Contains (called h.events) (Wait k c p tt) × (n ≡ notified_position h.events k)
 
 -- no place is owed the monitor
 abbrev pub IsClaimed : Turn → Type 0
@@ -59,7 +59,7 @@ HasBook h = (b : Contents) × IsOf b h
 abbrev pub IsAnswered : History (Unit {0}) → Row → Type 0
 IsAnswered h row =
     (row.answer ≡ answer_to h row.command)
-    × ((k : ℕ) → slice_index_or row.numbers k 0 ≡ number_called (history_after h row.command).events k)
+    × ((k : ℕ) → slice_index_or row.numbers k 0 ≡ notified_position (history_after h row.command).events k)
 
 -- each row has the answer by the history before it
 abbrev pub Answered : History (Unit {0}) → List Row → Type 0

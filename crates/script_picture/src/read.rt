@@ -3,7 +3,7 @@ ghost use Rattle.std.specs.Prelude.{◌≡◌, ◌≤◌, ◌||◌, ℕ, false, 
 ghost use Rattle.std.specs.Result.{MatchResult};
 ghost use Rattle.hoare_law.specs.declared.event.History.{History};
 ghost use Rattle.wait_book.specs.Contents.{IsOf, make_refusal};
-ghost use Rattle.wait_book.specs.Numbers.{number_called};
+ghost use Rattle.wait_book.specs.Numbers.{notified_position};
 ghost use Rattle.hoare_script.specs.Lines.{command_of, sizes_in};
 ghost use Rattle.hoare_script.specs.Runs.{is_read_fault};
 ghost use Rattle.line_text.specs.Streams.{has_read_failed};
@@ -101,11 +101,11 @@ fn read_numbered<R: Read>(
 // Returns the numbers of all places among those that are notified and haven't resumed.
 fn numbers_of(opened: &Opened) -> Numbers
     ensures { (h : History (Unit {0})) → IsOf opened.now h → h.sizes.places ≤ 64
-        → (k : ℕ) → slice_index_or result k 0 ≡ number_called h.events k }
+        → (k : ℕ) → slice_index_or result k 0 ≡ notified_position h.events k }
 {
     let mut numbers = [0; 64];
     'places: for place in 0..64 {
-        numbers[place] = opened.number_called(place) as u8;
+        numbers[place] = opened.notified_position(place) as u8;
     }
     numbers
 }

@@ -9,7 +9,7 @@ use Rattle.wait_book.specs.Contents.{Contents, IsOf, wait_of}
 use Rattle.wait_book.specs.Insides.{IsSound, called_in}
 use Rattle.wait_book.specs.declared.book.TheConstants.{MOST_PLACES}
 use Rattle.wait_book.specs.Lists.{places_in}
-use Rattle.wait_book.specs.Numbers.{number_called, number_from}
+use Rattle.wait_book.specs.Numbers.{notified_position, position_from}
 use Rattle.wait_book.proofs.Times.{few_once}
 use Rattle.wait_book.proofs.Waiters.{places}
 
@@ -27,7 +27,7 @@ places_called (x ∷ xs) = ap (λ (js : List ℕ). x.place ∷ js) (places_calle
 
 -- the number in the chain is the number among the called of the history
 pub number-chain : (b : Contents) (h : History (Unit {0})) (k : ℕ) (xs : List Link) → IsOf b h → b.called ≡ called_in xs
-    → number_from 0 k (places_in xs) ≡ number_called h.events k
+    → position_from 0 k (places_in xs) ≡ notified_position h.events k
 number-chain b h k xs o is =
-    ap (number_from 0 k) (sym (places_called xs) ∙ ap (λ (ws : List Waiter). map place_of (map wait_of ws)) (sym is)
+    ap (position_from 0 k) (sym (places_called xs) ∙ ap (λ (ws : List Waiter). map place_of (map wait_of ws)) (sym is)
     ∙ ap (map place_of) (sym o.called_are))

@@ -3,7 +3,7 @@ mod stepping;
 mod waits;
 
 use crate::chains::{Chains, SIGNALLERS};
-use crate::queues::{chain_of, first_priority, is_in_hand, number_called, turn_given_up};
+use crate::queues::{chain_of, first_priority, is_in_hand, notified_position, turn_given_up};
 use crate::steps::{MakeRefused, Next};
 use hoare_law::event::Sizes;
 use hoare_law::turn::Turn;
@@ -66,7 +66,7 @@ impl Book {
     ghost use Rattle.hoare_law.specs.Priorities.{joined, taken, emptied};
     ghost use Rattle.wait_book.specs.Contents.{IsOf, IsPlaceBelow, SameSizes, make_refusal, next_of, priorities_on};
     ghost use Rattle.wait_book.specs.Contents.{times, times_in};
-    ghost use Rattle.wait_book.specs.Numbers.{number_called};
+    ghost use Rattle.wait_book.specs.Numbers.{notified_position};
     ghost use Rattle.wait_book.specs.Stepping.{IsSettled, after_broadcast, after_notify, after_pass, after_signal};
     ghost use Rattle.wait_book.specs.Stepping.{after_step, refusal_of, settled};
 
@@ -184,12 +184,12 @@ impl Book {
 
     /// Returns the number of `place` among the processes that were notified and haven't resumed yet: 1 if it resumes
     /// first, 0 if it isn't among them.
-    pub fn number_called(&self, place: usize) -> usize
+    pub fn notified_position(&self, place: usize) -> usize
         ensures of { (h : History (Unit {0})) → IsOf self.now h
-            → result ≡ number_called h.events place }
+            → result ≡ notified_position h.events place }
         ensures few { result ≤ 64 }
     {
-        number_called(&self.chains, place)
+        notified_position(&self.chains, place)
     }
 
     /// Admits `place`, which is then inside. Requires that the monitor is free and the place is outside.

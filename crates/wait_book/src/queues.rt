@@ -7,7 +7,7 @@ ghost use Rattle.wait_book.specs.Contents.{times_in_hand, wait_of};
 ghost use Rattle.wait_book.specs.Insides.{called_in, chain_of};
 ghost use Rattle.wait_book.specs.Lists.{places_in};
 ghost use Rattle.wait_book.specs.Lists.{first_link, list_at};
-ghost use Rattle.wait_book.specs.Numbers.{number_from};
+ghost use Rattle.wait_book.specs.Numbers.{position_from};
 ghost use Rattle.wait_book.specs.declared.chains.Link.{Link};
 
 use crate::chains::{CALLED, CHAINS, Chains, SIGNALLERS};
@@ -49,9 +49,9 @@ pub(crate) fn nth_priority(chains: &Chains, condition: usize, i: usize) -> Optio
 }
 
 /// Returns the number of `place` among the notified, counted from 1, or 0 if it isn't among them.
-pub(crate) fn number_called(chains: &Chains, place: usize) -> usize
+pub(crate) fn notified_position(chains: &Chains, place: usize) -> usize
     requires { length (list_at chains.now CALLED) ≤ 64 }
-    ensures number { result ≡ number_from 0 place (places_in (list_at chains.now CALLED)) }
+    ensures number { result ≡ position_from 0 place (places_in (list_at chains.now CALLED)) }
     ensures few { result ≤ 64 }
 {
     let mut number = 0;

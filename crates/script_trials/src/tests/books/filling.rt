@@ -213,7 +213,7 @@ fn calling_step(past: &Past, fills: bool, number: u64) -> Result<Step, AllocErro
 fn called_of(book: &Book) -> usize {
     let mut count: usize = 0;
     for place in 0..64usize {
-        count = count.saturating_add((book.number_called(place) > 0) as usize);
+        count = count.saturating_add((book.notified_position(place) > 0) as usize);
     }
     count
 }

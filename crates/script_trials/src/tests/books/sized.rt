@@ -106,7 +106,7 @@ impl SizedBook {
     /// Returns true if exactly these are notified and haven't resumed, in the order in which they resume.
     pub fn has_called(&self, waits: &[Wait]) -> bool {
         for place in 0..self.sizes.places {
-            if self.book.number_called(place) != number_among(waits, place) {
+            if self.book.notified_position(place) != number_among(waits, place) {
                 return false;
             }
         }

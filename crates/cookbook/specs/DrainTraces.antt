@@ -3,7 +3,7 @@ use Rattle.std.specs.Prelude.{ℕ, ◌≡◌, ◌<◌, ◌≤◌, ◌+◌, ◌-�
 use Rattle.hoare_law.specs.declared.event.History.{History}
 use Rattle.hoare_law.specs.declared.event.Event.TheVariants.{Admit, Leave}
 use Rattle.hoare_law.specs.Events.{with_event}
-use Rattle.hoare_law.specs.Growth.{AddsLast, ComesTo, Finishes}
+use Rattle.hoare_law.specs.Growth.{AddsLast, GetsInside, Finishes}
 use Rattle.cookbook.specs.declared.drain.TooMuchWork.{TooMuchWork}
 
 -- k began a piece of work; or it was refused, since 1,000,000 were under way, and nothing changed
@@ -23,6 +23,6 @@ pub data Ends (k : ℕ) (f h : History ℕ) : Type 0 where
 pub record Drains (k : ℕ) (f h : History ℕ) : Type 0 where
   pub found : ℕ
   pub front : History ℕ
-  pub comes : ComesTo k (λ _ a. 0 < a) (λ _. 0) (λ _. 0) f front found
+  pub enters : GetsInside k (λ _ a. 0 < a) (λ _. 0) (λ _. 0) f front found
   pub dry : found ≡ 0
   pub finishes : Finishes k 0 found front h

@@ -3,7 +3,7 @@ use Rattle.std.specs.Prelude.{ℕ, ◌≡◌, ◌<◌, ◌≤◌, ◌-◌}
 use Rattle.hoare_law.specs.declared.event.History.{History}
 use Rattle.hoare_law.specs.declared.event.Event.TheVariants.{Admit, Leave}
 use Rattle.hoare_law.specs.Events.{with_event}
-use Rattle.hoare_law.specs.Growth.{AddsLast, ComesTo, Finishes}
+use Rattle.hoare_law.specs.Growth.{AddsLast, GetsInside, Finishes}
 
 -- k counted the latch down and left it shut; or k opened it or found it open, and resumed a waiter if there was one
 pub data CountsDown (k : ℕ) (f h : History ℕ) : Type 0 where
@@ -15,6 +15,6 @@ pub data CountsDown (k : ℕ) (f h : History ℕ) : Type 0 where
 pub record Passes (k : ℕ) (f h : History ℕ) : Type 0 where
   pub found : ℕ
   pub front : History ℕ
-  pub comes : ComesTo k (λ _ a. 0 < a) (λ _. 0) (λ _. 0) f front found
+  pub enters : GetsInside k (λ _ a. 0 < a) (λ _. 0) (λ _. 0) f front found
   pub open_then : found ≡ 0
   pub finishes : Finishes k 0 found front h

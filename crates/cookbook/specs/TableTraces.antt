@@ -4,7 +4,7 @@ use Rattle.hoare_law.specs.declared.event.History.{History}
 use Rattle.hoare_law.specs.declared.event.Event.TheVariants.{Admit, Leave}
 use Rattle.hoare_law.specs.Events.{with_event}
 use Rattle.hoare_law.specs.Waiting.{waiting}
-use Rattle.hoare_law.specs.Growth.{AddsLast, ComesTo, Finishes}
+use Rattle.hoare_law.specs.Growth.{AddsLast, GetsInside, Finishes}
 use Rattle.cookbook.specs.declared.table.NotEating.{NotEating}
 use Rattle.cookbook.specs.Tables.{IsEating, CanEat, seated, risen}
 
@@ -19,7 +19,7 @@ pub data HandsOn (k : ℕ) (t : List Bool) (f h : History (List Bool)) : Type 0 
 pub record SitsDown (k seat : ℕ) (f h : History (List Bool)) : Type 0 where
   pub found : List Bool
   pub front : History (List Bool)
-  pub comes : ComesTo k (λ _ t. CanEat t seat → ⊥) (λ _. seat) (λ _. 0) f front found
+  pub enters : GetsInside k (λ _ t. CanEat t seat → ⊥) (λ _. seat) (λ _. 0) f front found
   pub can : CanEat found seat
   pub hands_on : HandsOn k (seated found seat) front h
 

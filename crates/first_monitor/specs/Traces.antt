@@ -3,7 +3,7 @@ use Rattle.std.specs.Prelude.{ℕ, ◌+◌, ◌-◌, ◌<◌, ◌≡◌, Result,
 use Rattle.hoare_law.specs.declared.event.History.{History}
 use Rattle.hoare_law.specs.declared.event.Event.TheVariants.{Admit, Leave}
 use Rattle.hoare_law.specs.Events.{with_event}
-use Rattle.hoare_law.specs.Growth.{AddsLast, ComesTo, Finishes}
+use Rattle.hoare_law.specs.Growth.{AddsLast, GetsInside, Finishes}
 use Rattle.first_monitor.specs.declared.permits.Class.{Class}
 use Rattle.first_monitor.specs.declared.permits.Class.TheVariants.{Express, Standard}
 use Rattle.first_monitor.specs.declared.permits.NoneTaken.{NoneTaken}
@@ -22,7 +22,7 @@ with_free a n = record { total = a.total; free = n }
 pub record Takes (k : ℕ) (class : Class) (f h : History Permits) : Type 0 where
   pub found : Permits
   pub front : History Permits
-  pub comes : ComesTo k (λ _ a. a.free ≡ 0) (λ _. 0) (λ _. priority_of class) f front found
+  pub enters : GetsInside k (λ _ a. a.free ≡ 0) (λ _. 0) (λ _. priority_of class) f front found
   pub some : 0 < found.free
   pub leaves : h ≡ with_event front (Leave k (with_free found (found.free - 1)))
 

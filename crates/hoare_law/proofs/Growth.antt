@@ -6,7 +6,7 @@ use Rattle.hoare_law.specs.declared.event.Event.{Event}
 use Rattle.hoare_law.specs.declared.event.History.{History}
 use Rattle.hoare_law.specs.declared.event.Event.TheVariants.{Admit, Wait, Leave, Resume}
 use Rattle.hoare_law.specs.Events.{own, place_of, with_event}
-use Rattle.hoare_law.specs.Growth.{Begins, Grows, AddsLast, AddsTwo, ComesTo, waited, Exits, just_left, Signals}
+use Rattle.hoare_law.specs.Growth.{Begins, Grows, AddsLast, AddsTwo, GetsInside, waited, Exits, just_left, Signals}
 use Rattle.hoare_law.specs.Growth.{resumed_one, nobody_waited, Finishes, exited, signalled}
 
 pub Begins-refl : {S : Type 0} (h : History S) → Begins h h
@@ -47,11 +47,11 @@ Grows-one e f h is = rw is (record {
 -- each of the place, the data and the front that the clause names otherwise.
 module _ {S : Type 0} {k k1 : ℕ} {s s1 : S} {g g1 h : History S} where
   -- the place entered, was held up, and waited
-  pub ComesTo-waited : {held_up : History S → S → Type 0} {condition priority : S → ℕ} {c p : ℕ} {d : S} {f : History S}
+  pub GetsInside-waited : {held_up : History S → S → Type 0} {condition priority : S → ℕ} {c p : ℕ} {d : S} {f : History S}
       → AddsLast f (Admit k s) g → held_up g s
       → AddsTwo g1 (Wait k1 c p s1) (Resume k1 c d) h → k1 ≡ k → s1 ≡ s → g1 ≡ g → c ≡ condition s → p ≡ priority s
-      → ComesTo k held_up condition priority f h d
-  ComesTo-waited enters held waits place state front on with =
+      → GetsInside k held_up condition priority f h d
+  GetsInside-waited enters held waits place state front on with =
       waited g s enters held (rw (place, state, front, on, with) at waits)
 
   -- the place left

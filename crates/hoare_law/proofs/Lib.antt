@@ -23,7 +23,7 @@ pub mod Leaving
 pub mod Calling
 pub mod Ended
 pub mod Admissions
-pub mod Came
+pub mod GotInside
 pub mod Inside
 pub mod Signallers
 pub mod FirstCome

@@ -17,34 +17,34 @@ module _ {T : Type 0} {k k1 c : ℕ} {f g h : History (Buffered T)} {found now :
 module _ {Self Out In Lists T : Type 0} (M : Ghosts Self (Buffered T) Out In Lists) where
   -- the process of `out` entered, waited on c each time it found that it had to, and is inside at i, without a cause
   -- to wait
-  pub record CameFree (m : Self) (out : Out) (c : ℕ) (i : In) : Type 0 where
+  pub record GotInsideFree (m : Self) (out : Out) (c : ℕ) (i : In) : Type 0 where
     pub of : M.is_of_in m i
     pub place : M.place_in i ≡ M.place out
     pub holds : BufferHolds (M.data_in i)
     pub free : HoldsUp c (M.data_in i) → ⊥
-    pub comes : Rounds (M.place out) c (M.front out) (M.front_in i) (M.data_in i)
+    pub enters : Rounds (M.place out) c (M.front out) (M.front_in i) (M.data_in i)
 
   module _ {m : Self} {out : Out} {c : ℕ} {i : In} where
     -- the process needn't wait
-    pub CameFree-at_once : M.is_of_in m i → M.place_in i ≡ M.place out → BufferHolds (M.data_in i)
+    pub GotInsideFree-at_once : M.is_of_in m i → M.place_in i ≡ M.place out → BufferHolds (M.data_in i)
         → AddsLast (M.front out) (Admit (M.place out) (M.data_in i)) (M.front_in i) → (HoldsUp c (M.data_in i) → ⊥)
-        → CameFree m out c i
-    CameFree-at_once of place holds front free =
-        record { of = of; place = place; holds = holds; free = free; comes = entered _ _ front }
+        → GotInsideFree m out c i
+    GotInsideFree-at_once of place holds front free =
+        record { of = of; place = place; holds = holds; free = free; enters = entered _ _ front }
 
     -- the process had to wait, and waited until it needn't
-    pub CameFree-waited : {j : In} → M.place_in i ≡ M.place out
+    pub GotInsideFree-waited : {j : In} → M.place_in i ≡ M.place out
         → AddsLast (M.front out) (Admit (M.place out) (M.data_in i)) (M.front_in i)
         → M.is_of_in m j → M.place_in j ≡ M.place_in i → BufferHolds (M.data_in j) → (HoldsUp c (M.data_in j) → ⊥)
         → (Rounds (M.place_in i) c (M.front out) (M.front_in i) (M.data_in i)
         → Rounds (M.place_in i) c (M.front out) (M.front_in j) (M.data_in j))
-        → CameFree m out c j
-    CameFree-waited came front of place holds free waited = record {
+        → GotInsideFree m out c j
+    GotInsideFree-waited came front of place holds free waited = record {
       of = of;
       place = place ∙ came;
       holds = holds;
       free = free;
-      comes = (rw came at waited) (entered _ _ front);
+      enters = (rw came at waited) (entered _ _ front);
     }
 
 module _ {S : Type 0} {k k1 k2 c : ℕ} {s s1 s2 : S} {f f1 g h : History S} {b : Bool} where

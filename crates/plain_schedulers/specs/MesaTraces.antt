@@ -25,7 +25,7 @@ pub record Tells {S : Type 0} (k c : ℕ) (s : S) (f h : History S) : Type 0 whe
 pub record MesaAppends {T : Type 0} (k : ℕ) (x : T) (f h : History (Buffered T)) : Type 0 where
   pub found : Buffered T
   pub front : History (Buffered T)
-  pub comes : Rounds k 1 f front found
+  pub enters : Rounds k 1 f front found
   pub room : length found.items < found.size
   pub tells : Tells k 0 (added found x) front h
 
@@ -35,6 +35,6 @@ pub record MesaRemoves {T : Type 0} (k : ℕ) (x : T) (f h : History (Buffered T
   pub found : Buffered T
   pub others : List T
   pub front : History (Buffered T)
-  pub comes : Rounds k 0 f front found
+  pub enters : Rounds k 0 f front found
   pub oldest : found.items ≡ x ∷ others
   pub tells : Tells k 1 (with_items found others) front h

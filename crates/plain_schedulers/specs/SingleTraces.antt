@@ -3,14 +3,14 @@ use Rattle.std.specs.Prelude.{ℕ, ◌≡◌, Option, Some, None, IsSome, Result
 use Rattle.hoare_law.specs.declared.event.History.{History}
 use Rattle.hoare_law.specs.declared.event.Event.TheVariants.{Admit, Leave}
 use Rattle.hoare_law.specs.Events.{with_event}
-use Rattle.hoare_law.specs.Growth.{AddsLast, ComesTo, Finishes}
+use Rattle.hoare_law.specs.Growth.{AddsLast, GetsInside, Finishes}
 use Rattle.plain_schedulers.specs.declared.single.NotOut.{NotOut}
 
 -- k took the item that it found and left; before that it waited on nonbusy, once, if it found the item out
 pub record Acquires {T : Type 0} (k : ℕ) (item : T) (f h : History (Option T)) : Type 0 where
   pub found : Option T
   pub front : History (Option T)
-  pub comes : ComesTo k (λ _ a. a ≡ None) (λ _. 0) (λ _. 0) f front found
+  pub enters : GetsInside k (λ _ a. a ≡ None) (λ _. 0) (λ _. 0) f front found
   pub is_in : found ≡ Some item
   pub leaves : h ≡ with_event front (Leave k None)
 

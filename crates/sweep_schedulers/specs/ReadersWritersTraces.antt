@@ -5,7 +5,7 @@ use Rattle.hoare_law.specs.declared.event.History.{History}
 use Rattle.hoare_law.specs.declared.event.Event.TheVariants.{Admit, Leave}
 use Rattle.hoare_law.specs.Events.{with_event}
 use Rattle.hoare_law.specs.Waiting.{waiting}
-use Rattle.hoare_law.specs.Growth.{AddsLast, ComesTo, Finishes}
+use Rattle.hoare_law.specs.Growth.{AddsLast, GetsInside, Finishes}
 use Rattle.sweep_schedulers.specs.declared.not_out.NotOut.{NotOut}
 use Rattle.sweep_schedulers.specs.declared.readers_writers.ReadPass.{ReadPass}
 use Rattle.sweep_schedulers.specs.declared.readers_writers.NoReader.{NoReader}
@@ -27,7 +27,7 @@ pub record StartsRead {T : Type 0} (k : ℕ) (f h : History (Shared T))
   pub found : Shared T
   pub after : Shared T
   pub front : History (Shared T)
-  pub comes : ComesTo k ReaderHeldUp (λ _. 0) (λ _. 0) f front found
+  pub enters : GetsInside k ReaderHeldUp (λ _. 0) (λ _. 0) f front found
   pub admits : Admits found after read
   pub finishes : Finishes k 0 after front h
 
@@ -46,7 +46,7 @@ pub data EndsRead {T : Type 0} (k : ℕ) (pass : ReadPass) (f h : History (Share
 pub record StartsWrite {T : Type 0} (k : ℕ) (value : T) (f h : History (Shared T)) : Type 0 where
   pub found : Shared T
   pub front : History (Shared T)
-  pub comes : ComesTo k (λ _ a. IsInUse a) (λ _. 1) (λ _. 0) f front found
+  pub enters : GetsInside k (λ _ a. IsInUse a) (λ _. 1) (λ _. 0) f front found
   pub has : value ≡ found.value
   pub leaves : h ≡ with_event front (Leave k (with_writer found))
 

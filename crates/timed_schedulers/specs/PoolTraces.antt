@@ -4,7 +4,7 @@ use Rattle.std.specs.List.{position}
 use Rattle.hoare_law.specs.declared.event.History.{History}
 use Rattle.hoare_law.specs.declared.event.Event.TheVariants.{Admit, Wait, Leave, Resume}
 use Rattle.hoare_law.specs.Events.{with_event}
-use Rattle.hoare_law.specs.Growth.{AddsLast, AddsTwo, ComesTo, Finishes}
+use Rattle.hoare_law.specs.Growth.{AddsLast, AddsTwo, GetsInside, Finishes}
 use Rattle.timed_schedulers.specs.Pools.{Pooled, with_owner, held, free_count, Judges}
 use Rattle.timed_schedulers.specs.declared.pool.NoStream.{NoStream}
 use Rattle.timed_schedulers.specs.declared.pool.GiveRefused.{GiveRefused}
@@ -19,7 +19,7 @@ MustWait s _ a = (s < a.streams) × (free_count a ≡ 0)
 pub data Takes (k s : ℕ) (f h : History Pooled) : Result ℕ NoStream → Type 0 where
   refused : (a : Pooled) (g : History Pooled) (e : NoStream) → AddsLast f (Admit k a) g → a.streams ≤ s
       → h ≡ with_event g (Leave k a) → Takes k s f h (Err e)
-  took : (found : Pooled) (g : History Pooled) (b : ℕ) → ComesTo k (MustWait s) (λ _. 0) (held s) f g found
+  took : (found : Pooled) (g : History Pooled) (b : ℕ) → GetsInside k (MustWait s) (λ _. 0) (held s) f g found
       → s < found.streams
       → position is_none found.owners ≡ Some b → h ≡ with_event g (Leave k (with_owner found b (Some s)))
       → Takes k s f h (Ok b)

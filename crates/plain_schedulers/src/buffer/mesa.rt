@@ -136,7 +136,7 @@ impl<T: Drop> MesaBuffer<T> {
         ensures place { M.place_in result ≡ M.place_in inside }
         ensures holds { BufferHolds (M.data_in result) }
         ensures free { HoldsUp condition (M.data_in result) → ⊥ }
-        ensures comes { (f : History (Buffered T)) → Rounds (M.place_in inside) condition f
+        ensures enters { (f : History (Buffered T)) → Rounds (M.place_in inside) condition f
             (M.front_in inside) (M.data_in inside)
             → Rounds (M.place_in inside) condition f (M.front_in result) (M.data_in result) }
     {

@@ -1,6 +1,6 @@
 use Rattle.std.proofs.Common.{rules}
 use Rattle.hoare_law.specs.Growth.{at_once}
-use Rattle.hoare_law.proofs.Growth.{ComesTo-waited, Finishes-exit}
+use Rattle.hoare_law.proofs.Growth.{GetsInside-waited, Finishes-exit}
 use Rattle.cookbook.proofs.drain.Drain.drain.Goals as goal
 use Rattle.cookbook.proofs.drain.Drain.drain.Goals.{then-not-is_dry, else-not-is_dry}
 
@@ -8,9 +8,9 @@ pub returns-clause-trace : goal.returns-clause-trace
 returns-clause-trace g c = record {
   found = g.M.Monitor.data_in c.if-not-is_dry.inside;
   front = g.M.Monitor.front_in c.if-not-is_dry.inside;
-  comes = elim c.if-not-is_dry.branch [
+  enters = elim c.if-not-is_dry.branch [
     | then-not-is_dry w ↦ rw w.inside-is
-        (ComesTo-waited c.enter-inside.ensures.front (search rules) w.wait-inside.ensures.front (search rules)
+        (GetsInside-waited c.enter-inside.ensures.front (search rules) w.wait-inside.ensures.front (search rules)
         (search rules)
         (search rules) (search rules) (search rules))
     | else-not-is_dry w ↦ rw w.inside-is (at_once c.enter-inside.ensures.front (search rules))

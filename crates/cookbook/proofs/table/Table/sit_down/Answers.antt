@@ -1,6 +1,6 @@
 use Rattle.std.proofs.Common.{arith, ◌∙◌, refl}
 use Rattle.std.proofs.lemmas.Bool.{iff_false}
-use Rattle.hoare_law.proofs.Came.{Came, Came-at_once, Came-waited}
+use Rattle.hoare_law.proofs.GotInside.{GotInside, GotInside-at_once, GotInside-waited}
 use Rattle.cookbook.specs.Tables.{TableHolds, CanEat}
 use Rattle.cookbook.proofs.Tables.{TableHolds-seated, HandsOn-as}
 use Rattle.cookbook.proofs.table.Table.sit_down.Given.{Over}
@@ -9,20 +9,20 @@ use Rattle.cookbook.proofs.table.Table.sit_down.Goals.{After-state_mut, then-not
 
 -- the caller entered and, after a wait or without one, finds that it can eat
 came : (g : Over) (c : After-state_mut g)
-    → Came g.M.Monitor c.args.m.now c.args.out (λ _ t. CanEat t c.args.seat → ⊥) (λ _. c.args.seat) (λ _. 0)
+    → GotInside g.M.Monitor c.args.m.now c.args.out (λ _ t. CanEat t c.args.seat → ⊥) (λ _. c.args.seat) (λ _. 0)
     (λ t _. TableHolds t × CanEat t c.args.seat) c.if-not-can_eat.inside
 came g c = elim c.if-not-can_eat.branch [
   | then-not-can_eat w ↦
       let ready = w.wait-inside.ensures.ready (omega (arith, c.requires.seat)) in
       let cannot = rw c.state.ensures at (iff_false c.can_eat.ensures w.if-not-can_eat.true) in
       rw w.inside-is
-      (Came-waited g.M.Monitor c.enter-inside.ensures.place c.enter-inside.ensures.front cannot w.wait-inside.ensures.of
+      (GotInside-waited g.M.Monitor c.enter-inside.ensures.place c.enter-inside.ensures.front cannot w.wait-inside.ensures.of
       w.wait-inside.ensures.place
       w.wait-inside.ensures.front refl refl (ready.inv, ready.can))
   | else-not-can_eat w ↦
       let can = rw c.state.ensures at (c.can_eat.ensures.0 w.if-not-can_eat.false) in
       rw w.inside-is
-      (Came-at_once g.M.Monitor c.enter-inside.ensures.of c.enter-inside.ensures.place c.enter-inside.ensures.front
+      (GotInside-at_once g.M.Monitor c.enter-inside.ensures.of c.enter-inside.ensures.place c.enter-inside.ensures.front
       (λ cannot. cannot can)
       (c.enter-inside.ensures.rest.inv, can))
 ]
@@ -49,7 +49,7 @@ returns-clause-trace g c =
     record {
       found = g.M.Monitor.data_in c.if-not-can_eat.inside;
       front = g.M.Monitor.front_in c.if-not-can_eat.inside;
-      comes = inside.comes;
+      enters = inside.enters;
       can = inside.ready.1;
       hands_on = HandsOn-as c.hand_on.ensures.trace (g.met.M.Monitor.keeps_place _ _ ∙ inside.place)
           (g.met.M.Monitor.takes_data _ _ ∙ (rw c.state_mut.ensures.value at c.start.ensures))

@@ -1,6 +1,6 @@
 use Rattle.std.proofs.Common.{◌≡◌, ◌∙◌, arith, refl, length}
 use Rattle.std.proofs.lemmas.Bool.{iff_false}
-use Rattle.hoare_law.proofs.Came.{Came, Came-at_once, Came-waited}
+use Rattle.hoare_law.proofs.GotInside.{GotInside, GotInside-at_once, GotInside-waited}
 use Rattle.hoare_law.proofs.Growth.{Finishes-exit}
 use Rattle.plain_schedulers.specs.Buffers.{ReadyNonempty}
 use Rattle.plain_schedulers.proofs.Buffers.{ReadyNonempty-at_once, ReadyNonfull-removed, BufferRests-removed, left_of}
@@ -10,19 +10,19 @@ use Rattle.plain_schedulers.proofs.buffer.Buffer.remove.Goals.{After-state_mut, 
 
 -- the process entered and, after a wait or without one, finds an item
 came : (g : Over) (c : After-state_mut g)
-    → Came g.M.Monitor c.args.m.now c.args.out (λ _ a. length a.items ≡ 0) (λ _. 0) (λ _. 0)
+    → GotInside g.M.Monitor c.args.m.now c.args.out (λ _ a. length a.items ≡ 0) (λ _. 0) (λ _. 0)
     (λ b q. ReadyNonempty b (q 0) (q 1)) c.if-is_empty.inside
 came g c = elim c.if-is_empty.branch [
   | then-is_empty w ↦
       let none = rw c.state.ensures at (c.is_empty.ensures.0 w.if-is_empty.true) in
       rw w.inside-is
-      (Came-waited g.M.Monitor c.enter-inside.ensures.place c.enter-inside.ensures.front none w.wait-inside.ensures.of
+      (GotInside-waited g.M.Monitor c.enter-inside.ensures.place c.enter-inside.ensures.front none w.wait-inside.ensures.of
       w.wait-inside.ensures.place
       w.wait-inside.ensures.front refl refl (w.wait-inside.ensures.ready (omega arith)))
   | else-is_empty w ↦
       let some = rw c.state.ensures at (iff_false c.is_empty.ensures w.if-is_empty.false) in
       rw w.inside-is
-      (Came-at_once g.M.Monitor c.enter-inside.ensures.of c.enter-inside.ensures.place c.enter-inside.ensures.front some
+      (GotInside-at_once g.M.Monitor c.enter-inside.ensures.of c.enter-inside.ensures.place c.enter-inside.ensures.front some
       (ReadyNonempty-at_once c.enter-inside.ensures.rest some))
 ]
 
@@ -48,7 +48,7 @@ returns-clause-trace g c =
       found = g.M.Monitor.data_in c.if-is_empty.inside;
       others = c.pop-item.new.self.items;
       front = g.M.Monitor.front_in c.if-is_empty.inside;
-      comes = inside.comes;
+      enters = inside.enters;
       oldest = rw c.state_mut.ensures.value at c.pop-item.ensures.items;
       finishes = Finishes-exit c.signal_leave-out.ensures.front (g.met.M.Monitor.keeps_place _ _ ∙ inside.place)
           (g.met.M.Monitor.takes_data _ _ ∙ left_of (g.M.Monitor.data_in c.if-is_empty.inside)

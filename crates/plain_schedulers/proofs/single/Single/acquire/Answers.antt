@@ -1,6 +1,6 @@
 use Rattle.std.proofs.Common.{rules, ◌≡◌, ◌∙◌, refl}
 use Rattle.hoare_law.specs.Growth.{at_once}
-use Rattle.hoare_law.proofs.Growth.{ComesTo-waited, leaves-as}
+use Rattle.hoare_law.proofs.Growth.{GetsInside-waited, leaves-as}
 use Rattle.plain_schedulers.proofs.single.Single.acquire.Goals as goal
 use Rattle.plain_schedulers.proofs.single.Single.acquire.Goals.{then-not-is_in, else-not-is_in}
 
@@ -13,9 +13,9 @@ returns-clause-trace g c =
     record {
       found = g.M.Monitor.data_in c.if-not-is_in.inside;
       front = g.M.Monitor.front_in c.if-not-is_in.inside;
-      comes = elim c.if-not-is_in.branch [
+      enters = elim c.if-not-is_in.branch [
         | then-not-is_in w ↦ rw w.inside-is
-            (ComesTo-waited c.enter-inside.ensures.front (search rules) w.wait-inside.ensures.front
+            (GetsInside-waited c.enter-inside.ensures.front (search rules) w.wait-inside.ensures.front
             c.enter-inside.ensures.place
             refl refl refl refl)
         | else-not-is_in w ↦ rw w.inside-is (at_once c.enter-inside.ensures.front (search rules))

@@ -1,5 +1,5 @@
 use Rattle.std.proofs.Common.{arith, rules, ◌≡◌, ◌∙◌, false, refl}
-use Rattle.hoare_law.proofs.Came.{Came, Came-at_once, Came-waited}
+use Rattle.hoare_law.proofs.GotInside.{GotInside, GotInside-at_once, GotInside-waited}
 use Rattle.hoare_law.proofs.Growth.{Finishes-exit}
 use Rattle.sweep_schedulers.specs.ReadersWriters.{ReadReady}
 use Rattle.sweep_schedulers.specs.ReadersWritersTraces.{ReaderHeldUp}
@@ -11,15 +11,15 @@ use Rattle.sweep_schedulers.proofs.readers_writers.ReadersWriters.start_read.Goa
 
 -- the process entered and, after a wait or without one, finds no writer in
 came : (g : Over) (c : After-state_mut g)
-    → Came g.M.Monitor c.args.m.now c.args.out ReaderHeldUp (λ _. 0) (λ _. 0) (λ d _. ReadReady d) c.if-is_busy.inside
+    → GotInside g.M.Monitor c.args.m.now c.args.out ReaderHeldUp (λ _. 0) (λ _. 0) (λ d _. ReadReady d) c.if-is_busy.inside
 came g c = elim c.if-is_busy.branch [
-  | then-is_busy w ↦ rw w.inside-is (Came-waited g.M.Monitor c.enter-inside.ensures.place c.enter-inside.ensures.front
+  | then-is_busy w ↦ rw w.inside-is (GotInside-waited g.M.Monitor c.enter-inside.ensures.place c.enter-inside.ensures.front
       (search rules) w.wait-inside.ensures.of w.wait-inside.ensures.place
       w.wait-inside.ensures.front refl refl (w.wait-inside.ensures.ready (omega arith)))
   | else-is_busy+else-queue w ↦
       let free : (g.M.Monitor.data_in c.enter-inside.result).busy ≡ false = search rules in
       rw w.inside-is
-      (Came-at_once g.M.Monitor c.enter-inside.ensures.of c.enter-inside.ensures.place c.enter-inside.ensures.front
+      (GotInside-at_once g.M.Monitor c.enter-inside.ensures.of c.enter-inside.ensures.place c.enter-inside.ensures.front
       (search rules)
       (record { inv = c.enter-inside.ensures.rest.inv; no_writer = free }))
 ]
@@ -44,7 +44,7 @@ returns-clause-trace g c =
       found = g.M.Monitor.data_in c.if-is_busy.inside;
       after = c.admit-read.new.self;
       front = g.M.Monitor.front_in c.if-is_busy.inside;
-      comes = inside.comes;
+      enters = inside.enters;
       admits = rw c.state_mut.ensures.value at c.admit-read.ensures;
       finishes = Finishes-exit c.signal_leave-out.ensures.front (g.met.M.Monitor.keeps_place _ _ ∙ inside.place)
           (g.met.M.Monitor.takes_data _ _) (g.met.M.Monitor.keeps_front _ _);

@@ -1,6 +1,6 @@
 use Rattle.std.proofs.Common.{arith, ◌∙◌, refl}
 use Rattle.std.proofs.lemmas.Bool.{iff_false}
-use Rattle.hoare_law.proofs.Came.{Came, Came-at_once, Came-waited}
+use Rattle.hoare_law.proofs.GotInside.{GotInside, GotInside-at_once, GotInside-waited}
 use Rattle.hoare_law.proofs.Growth.{leaves-as}
 use Rattle.sweep_schedulers.specs.ReadersWriters.{IsInUse, WriteReady}
 use Rattle.sweep_schedulers.proofs.Readers.{ReadersRest-writer, WriteReady-at_once, ReadersRest-reserved}
@@ -16,19 +16,19 @@ wait-inside-requires-clause-rest g c =
 
 -- the process entered and, after a wait or without one, finds no reader and no writer in
 came : (g : Over) (c : After-state_mut g)
-    → Came g.M.Monitor c.args.m.now c.args.out (λ _ a. IsInUse a) (λ _. 1) (λ _. 0)
+    → GotInside g.M.Monitor c.args.m.now c.args.out (λ _ a. IsInUse a) (λ _. 1) (λ _. 0)
     (λ d _. WriteReady d) c.if-is_in_use.inside
 came g c = elim c.if-is_in_use.branch [
   | then-is_in_use w ↦
       let used = rw c.state.ensures at (c.is_in_use.ensures.0 w.if-is_in_use.true) in
       rw w.inside-is
-      (Came-waited g.M.Monitor c.enter-inside.ensures.place c.enter-inside.ensures.front used w.wait-inside.ensures.of
+      (GotInside-waited g.M.Monitor c.enter-inside.ensures.place c.enter-inside.ensures.front used w.wait-inside.ensures.of
       w.wait-inside.ensures.place
       w.wait-inside.ensures.front refl refl (w.wait-inside.ensures.ready (omega arith)))
   | else-is_in_use w ↦
       let unused = rw c.state.ensures at (iff_false c.is_in_use.ensures w.if-is_in_use.false) in
       rw w.inside-is
-      (Came-at_once g.M.Monitor c.enter-inside.ensures.of c.enter-inside.ensures.place
+      (GotInside-at_once g.M.Monitor c.enter-inside.ensures.of c.enter-inside.ensures.place
       c.enter-inside.ensures.front unused
       (WriteReady-at_once c.enter-inside.ensures.rest unused))
 ]
@@ -44,7 +44,7 @@ returns-clause-trace g c =
     record {
       found = g.M.Monitor.data_in c.if-is_in_use.inside;
       front = g.M.Monitor.front_in c.if-is_in_use.inside;
-      comes = inside.comes;
+      enters = inside.enters;
       has = rw c.state_mut.ensures.value at c.reserve-value.ensures.value;
       leaves = leaves-as c.leave.ensures.front (g.met.M.Monitor.keeps_place _ _ ∙ inside.place)
           (g.met.M.Monitor.takes_data _ _ ∙ (rw c.state_mut.ensures.value at c.reserve-value.ensures.after))

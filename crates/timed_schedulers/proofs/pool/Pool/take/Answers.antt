@@ -1,5 +1,5 @@
 use Rattle.std.proofs.Common.{arith, ◌≢◌, ◌<◌, ◌∙◌, ap, refl, sym, rules}
-use Rattle.hoare_law.proofs.Came.{Came, Came-at_once, Came-waited}
+use Rattle.hoare_law.proofs.GotInside.{GotInside, GotInside-at_once, GotInside-waited}
 use Rattle.hoare_law.proofs.Growth.{leaves-as, Finishes-exit}
 use Rattle.timed_schedulers.specs.Pools.{PoolReady, free_count, held}
 use Rattle.timed_schedulers.specs.PoolTraces.{MustWait, refused, took}
@@ -26,7 +26,7 @@ returns-then-not-has_stream-2-clause-trace g c =
 
 -- the process entered and, after a wait or without one, its stream is one of the pool's and it finds a free buffer
 came : (g : Over) (c : After-state_mut g)
-    → Came g.M.Monitor c.args.m.now c.args.out (MustWait c.args.stream) (λ _. 0) (held c.args.stream)
+    → GotInside g.M.Monitor c.args.m.now c.args.out (MustWait c.args.stream) (λ _. 0) (held c.args.stream)
     (λ p q. (c.args.stream < p.streams) × PoolReady p (q 0)) c.if-free-eq0.inside
 came g c =
     let stream = rw c.state.ensures at (c.has_stream.ensures.0 c.if-not-has_stream.false) in
@@ -36,7 +36,7 @@ came g c =
           let stays =
           rw w.state-then-free-eq0-2.ensures at (w.has_stream-then-free-eq0.ensures.0 w.if-not-has_stream-2.false) in
           rw w.inside-is
-          (Came-waited g.M.Monitor c.enter-inside.ensures.place c.enter-inside.ensures.front
+          (GotInside-waited g.M.Monitor c.enter-inside.ensures.place c.enter-inside.ensures.front
           (stream, none) w.wait-inside.ensures.of
           w.wait-inside.ensures.place w.wait-inside.ensures.front refl (search rules)
           (stays, w.wait-inside.ensures.ready (omega arith)))
@@ -44,7 +44,7 @@ came g c =
           let some : free_count (g.M.Monitor.data_in c.enter-inside.result) ≢ 0 =
           λ none. w.if-free-eq0.false ((rw c.state-2.ensures at c.free.ensures.answer) ∙ none) in
           rw w.inside-is
-          (Came-at_once g.M.Monitor c.enter-inside.ensures.of c.enter-inside.ensures.place c.enter-inside.ensures.front
+          (GotInside-at_once g.M.Monitor c.enter-inside.ensures.of c.enter-inside.ensures.place c.enter-inside.ensures.front
           (λ must. some must.1) (stream, PoolReady-idle c.enter-inside.ensures.rest some))
     ]
 
@@ -66,7 +66,7 @@ pub returns-clause-trace : goal.returns-clause-trace
 returns-clause-trace g c =
     let inside = came g (goal.at.returns-clause-trace g c).After-state_mut in
     took (g.M.Monitor.data_in c.if-free-eq0.inside) (g.M.Monitor.front_in c.if-free-eq0.inside) _
-    inside.comes inside.ready.0 (rw c.state_mut.ensures.value at c.own_least-buffer.ensures.least)
+    inside.enters inside.ready.0 (rw c.state_mut.ensures.value at c.own_least-buffer.ensures.least)
     (leaves-as c.leave-2.ensures.front (g.met.M.Monitor.keeps_place _ _ ∙ inside.place)
     (g.met.M.Monitor.takes_data _ _ ∙ (rw c.state_mut.ensures.value at c.own_least-buffer.ensures.owned))
     (g.met.M.Monitor.keeps_front _ _))

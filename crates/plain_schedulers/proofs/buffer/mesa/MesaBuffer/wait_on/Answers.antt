@@ -12,7 +12,7 @@ rounds-preserved g c = record {
       c.wait-inside.ensures.front c.rounds.invariant.place;
 }
 
-pub returns-then-not-holds_up-clause-comes : goal.returns-then-not-holds_up-clause-comes
-returns-then-not-holds_up-clause-comes g c f waited =
+pub returns-then-not-holds_up-clause-enters : goal.returns-then-not-holds_up-clause-enters
+returns-then-not-holds_up-clause-enters g c f waited =
     Rounds-again (c.rounds.invariant.waited f waited) c.rounds.invariant.held_up c.wait-inside.ensures.front
     c.rounds.invariant.place

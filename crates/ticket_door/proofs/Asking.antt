@@ -66,12 +66,12 @@ module _ {D : Type 0} where
       pub place : a.place ≡ o.place
       pub front : IsInHistory a.front o
 
-    pub asks_as : (d : TicketDoorId) (o : PlaceOut D) (a : PlaceAsked D) {k : ℕ} {g : History D} {x : ℕ} {m : SeatState
+    pub takes_ticket_as : (d : TicketDoorId) (o : PlaceOut D) (a : PlaceAsked D) {k : ℕ} {g : History D} {x : ℕ} {m : SeatState
         D}
         → IsOut rest ready kinds d.door o → TakesTicket rest ready d.door.places k o.front g x m → k ≡ o.place
         → a.place_id ≡ o.place_id → a.place ≡ o.place → a.front ≡ g → a.number ≡ x → a.ticket ≡ (d.first + x) % 2 ^ 64
         → Asks d o a
-    asks_as d o a {k = k} {g = g} {x = x} {m = m} out took same of at front number ticket =
+    takes_ticket_as d o a {k = k} {g = g} {x = x} {m = m} out took same of at front number ticket =
         let t : TakesTicket rest ready d.door.places o.place o.front g x m =
         subst (λ (j : ℕ). TakesTicket rest ready d.door.places j o.front g x m) same took in
         let known = t.learns.fits.0 in

@@ -10,7 +10,7 @@ use Rattle.door_frame.specs.declared.view.Token.TheVariants as token
 use Rattle.door_frame.specs.Rule.{Tokens}
 use Rattle.door_frame.proofs.Views.{given_to, given_here, given_else}
 use Rattle.ticket_door.specs.Queue.{ticket_in}
-use Rattle.ticket_door.specs.Rule.{Gate, ajar, shut_by, token_in, IsKept}
+use Rattle.ticket_door.specs.Rule.{Gate, open_gate, shut_by, token_in, IsKept}
 use Rattle.ticket_door.proofs.Queue.{None≢Some, ticket_only, ticket_none, none_ticket, ticket_last, ticket_kept}
 
 -- the place that shut the gate has it
@@ -23,7 +23,7 @@ gate_else i v a q k n = ap (λ b. cond b (Some (token.Gate v)) (ticket_in a q k)
 -- a place with a ticket has it by the queue
 pub has_ticket : (g : Gate) (a : ℕ) (q : List ℕ) (k x : ℕ) → token_in g a q k ≡ Some (token.Ticket x)
     → ticket_in a q k ≡ Some (token.Ticket x)
-has_ticket ajar a q k x e = e
+has_ticket open_gate a q k x e = e
 has_ticket (shut_by i v) a q k x e = dite (ℕ_discrete k i)
     (λ same.
     let no : ◌≡◌ {A = Option Token} (Some (token.Gate v)) (Some (token.Ticket x)) =
@@ -37,13 +37,13 @@ not_shut i v a q k e same = None≢Some (token.Gate v) (sym e ∙ gate_here i v 
 
 -- and isn't in the queue
 pub has_none : (g : Gate) (a : ℕ) (q : List ℕ) (k : ℕ) → token_in g a q k ≡ None → times k q ≡ 0
-has_none ajar a q k e = ticket_none a q k e
+has_none open_gate a q k e = ticket_none a q k e
 has_none (shut_by i v) a q k e =
     ticket_none a q k (sym (gate_else i v a q k (not_shut i v a q k e)) ∙ e)
 
 -- the place that has the gate shut it
 pub has_gate : (g : Gate) (a : ℕ) (q : List ℕ) (k v : ℕ) → token_in g a q k ≡ Some (token.Gate v) → g ≡ shut_by k v
-has_gate ajar a q k v e = absurd (ticket_only a q k v e)
+has_gate open_gate a q k v e = absurd (ticket_only a q k v e)
 has_gate (shut_by i w) a q k v e = dite (ℕ_discrete k i)
     (λ same.
     let is : ◌≡◌ {A = Option Token} (Some (token.Gate w)) (Some (token.Gate v)) = sym (gate_here i w a q k same) ∙ e in
@@ -59,33 +59,33 @@ has_gate (shut_by i w) a q k v e = dite (ℕ_discrete k i)
     gate_number is = ap number is
 
 -- a place that asks takes the next ticket, whatever place has the gate
-asks_here : (g : Gate) (a : ℕ) (q : List ℕ) (k : ℕ) → token_in g a q k ≡ None
+takes_ticket_here : (g : Gate) (a : ℕ) (q : List ℕ) (k : ℕ) → token_in g a q k ≡ None
     → token_in g a (q ++ k ∷ []) k ≡ Some (token.Ticket (a + length q))
-asks_here ajar a q k e = ticket_last a q k (ticket_none a q k e)
-asks_here (shut_by i v) a q k e =
+takes_ticket_here open_gate a q k e = ticket_last a q k (ticket_none a q k e)
+takes_ticket_here (shut_by i v) a q k e =
     gate_else i v a (q ++ k ∷ []) k (not_shut i v a q k e) ∙ ticket_last a q k (has_none (shut_by i v) a q k e)
 
 -- and the other places keep what they have
-asks_else : (g : Gate) (a : ℕ) (q : List ℕ) (k j : ℕ) → j ≢ k → token_in g a (q ++ k ∷ []) j ≡ token_in g a q j
-asks_else ajar a q k j ne = ticket_kept a q k j ne
-asks_else (shut_by i v) a q k j ne =
+takes_ticket_else : (g : Gate) (a : ℕ) (q : List ℕ) (k j : ℕ) → j ≢ k → token_in g a (q ++ k ∷ []) j ≡ token_in g a q j
+takes_ticket_else open_gate a q k j ne = ticket_kept a q k j ne
+takes_ticket_else (shut_by i v) a q k j ne =
     ap (λ (o : Option Token). cond (eqb j i) (Some (token.Gate v)) o) (ticket_kept a q k j ne)
 
-pub asks_tokens : (g : Gate) (a : ℕ) (q : List ℕ) (k : ℕ) (tokens : Tokens) → ((j : ℕ) → tokens j ≡ token_in g a q j)
+pub takes_ticket_tokens : (g : Gate) (a : ℕ) (q : List ℕ) (k : ℕ) (tokens : Tokens) → ((j : ℕ) → tokens j ≡ token_in g a q j)
     → tokens k ≡ None → (j : ℕ)
     → given_to tokens k (Some (token.Ticket (a + length q))) j ≡ token_in g a (q ++ k ∷ []) j
-asks_tokens g a q k tokens are none j =
+takes_ticket_tokens g a q k tokens are none j =
     let t : Option Token = Some (token.Ticket (a + length q)) in
     dite (ℕ_discrete j k)
     (λ same. subst (λ (i : ℕ). given_to tokens k t i ≡ token_in g a (q ++ k ∷ []) i) (sym same)
-    (given_here tokens k t ∙ sym (asks_here g a q k (sym (are k) ∙ none))))
-    (λ ne. given_else tokens k t j ne ∙ are j ∙ sym (asks_else g a q k j ne))
+    (given_here tokens k t ∙ sym (takes_ticket_here g a q k (sym (are k) ∙ none))))
+    (λ ne. given_else tokens k t j ne ∙ are j ∙ sym (takes_ticket_else g a q k j ne))
 
-pub asks_kept : (g : Gate) (first served a : ℕ) (q : List ℕ) (k : ℕ) → token_in g a q k ≡ None
+pub takes_ticket_kept : (g : Gate) (first served a : ℕ) (q : List ℕ) (k : ℕ) → token_in g a q k ≡ None
     → IsKept first served a q g
     → IsKept first served a (q ++ k ∷ []) g
-asks_kept ajar first served a q k e h = tt
-asks_kept (shut_by i v) first served a q k e h = record {
+takes_ticket_kept open_gate first served a q k e h = tt
+takes_ticket_kept (shut_by i v) first served a q k e h = record {
   since = h.since;
   word = h.word;
   begins = h.begins;
@@ -99,7 +99,7 @@ asks_kept (shut_by i v) first served a q k e h = record {
 -- what holds of the gate's holder still holds after one more turn ended
 pub serves_kept : (g : Gate) (first served a : ℕ) (q : List ℕ) → IsKept first served a q g
     → IsKept first (served + 1) a q g
-serves_kept ajar first served a q h = tt
+serves_kept open_gate first served a q h = tt
 serves_kept (shut_by i v) first served a q h = record {
   since = h.since;
   word = h.word;
@@ -109,16 +109,16 @@ serves_kept (shut_by i v) first served a q h = record {
 }
 
 -- the place that shuts the gate has it
-pub shuts_tokens : (a : ℕ) (q : List ℕ) (k v : ℕ) (tokens : Tokens) → ((j : ℕ) → tokens j ≡ ticket_in a q j)
+pub closes_gate_tokens : (a : ℕ) (q : List ℕ) (k v : ℕ) (tokens : Tokens) → ((j : ℕ) → tokens j ≡ ticket_in a q j)
     → (j : ℕ)
     → given_to tokens k (Some (token.Gate v)) j ≡ token_in (shut_by k v) a q j
-shuts_tokens a q k v tokens are j = ap (λ (o : Option Token). cond (eqb j k) (Some (token.Gate v)) o) (are j)
+closes_gate_tokens a q k v tokens are j = ap (λ (o : Option Token). cond (eqb j k) (Some (token.Gate v)) o) (are j)
 
 -- and when it opens the gate again, it has nothing
-pub reopens_tokens : (a : ℕ) (q : List ℕ) (k v : ℕ) (tokens : Tokens)
+pub opens_gate_tokens : (a : ℕ) (q : List ℕ) (k v : ℕ) (tokens : Tokens)
     → ((j : ℕ) → tokens j ≡ token_in (shut_by k v) a q j)
     → times k q ≡ 0 → (j : ℕ) → given_to tokens k None j ≡ ticket_in a q j
-reopens_tokens a q k v tokens are out j = dite (ℕ_discrete j k)
+opens_gate_tokens a q k v tokens are out j = dite (ℕ_discrete j k)
     (λ same. subst (λ (i : ℕ). given_to tokens k None i ≡ ticket_in a q i) (sym same)
     (given_here tokens k None ∙ sym (none_ticket a q k out)))
     (λ ne. given_else tokens k None j ne ∙ are j ∙ gate_else k v a q j ne)

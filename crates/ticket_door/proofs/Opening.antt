@@ -19,7 +19,7 @@ use Rattle.door_frame.specs.declared.view.SeatView.TheVariants.{Unopened, Openin
 use Rattle.door_frame.specs.Rule.{TableInvariant}
 use Rattle.door_frame.specs.Steps.{SeatState, begins, opens}
 use Rattle.door_frame.proofs.Steps as frame
-use Rattle.ticket_door.specs.Rule.{Initial, WordsFit, ajar, next_at, serving_at, bell_at}
+use Rattle.ticket_door.specs.Rule.{Initial, WordsFit, open_gate, next_at, serving_at, bell_at}
 
 module _ {D : Type 0} (first n : ℕ) where
   -- the words fit a door that has just been opened: no place has a ticket, and the first ticket is served
@@ -32,7 +32,7 @@ module _ {D : Type 0} (first n : ℕ) where
     once = λ k. omega arith;
     below = λ k some. absurd (omega (arith, some));
     are_outside = λ k some. absurd (omega (arith, some));
-    gate = ajar;
+    gate = open_gate;
     tokens_are = λ k. refl;
     next = st.next ∙ ap (λ (m : ℕ). m % 2 ^ 64) (let same : first ≡ first + 0 = omega arith in same);
     served = 0;

@@ -22,17 +22,17 @@ use Rattle.door_frame.specs.Steps.{SeatState, Gives, gives_as, due}
 use Rattle.door_frame.specs.Views.{alone}
 use Rattle.door_frame.proofs.Steps as frame
 use Rattle.hoare_law.specs.Admissions.{admissions}
-use Rattle.ticket_door.specs.Rule.{Initial, WordsFit, token_in, IsKept, next_at, serving_at, bell_at, taken, rung}
-use Rattle.ticket_door.specs.Steps.{hears, HearsAt}
+use Rattle.ticket_door.specs.Rule.{Initial, WordsFit, token_in, IsKept, next_at, serving_at, bell_at, taken, bell_value}
+use Rattle.ticket_door.specs.Steps.{takes_bell, TakesBellAt}
 use Rattle.hoare_law.proofs.Admissions.{admissions-other}
-use Rattle.ticket_door.proofs.Turns.{for_next, rings_due, rung_else, rung_due, no_admit, held_busy, due_busy}
+use Rattle.ticket_door.proofs.Turns.{for_next, rings_due, bell_else, bell_due, no_admit, held_busy, due_busy}
 use Rattle.ticket_door.proofs.Turns.{due_inside, still_outside}
 
 module _ {D : Type 0} (first n : ℕ) where
   -- a bell has another number, and it is somebody's turn before and after
   rewritten : (f h : History D) (tokens : Tokens) (ws : List ℕ) (k y : ℕ) → k < n → taken (turn f.events) ≡ 1
       → taken (turn h.events) ≡ 1 → admissions h.events ≡ admissions f.events
-      → rung (turn h.events) k ≡ y → ((j : ℕ) → j ≢ k → rung (turn h.events) j ≡ rung (turn f.events) j)
+      → bell_value (turn h.events) k ≡ y → ((j : ℕ) → j ≢ k → bell_value (turn h.events) j ≡ bell_value (turn f.events) j)
       → (t : WordsFit first n f tokens ws) → ((j : ℕ) → 0 < times j t.queue → outside j h.events ≡ true)
       → WordsFit first n h tokens (set ws (bell_at k) y)
   rewritten f h tokens ws k y small before after same here else_ t out = let wide = t.words_are in record {
@@ -50,7 +50,7 @@ module _ {D : Type 0} (first n : ℕ) where
     serving = get_or-set_other ws (bell_at k) serving_at y 0 (λ eq. omega (arith, eq)) ∙ t.serving;
     kept = subst (λ (m : ℕ). IsKept first t.served m t.queue t.gate) (sym same) t.kept;
     bells = λ j b. dite (ℕ_discrete j k)
-        (λ is. subst (λ (i : ℕ). get_or (set ws (bell_at k) y) (bell_at i) 0 ≡ rung (turn h.events) i) (sym is)
+        (λ is. subst (λ (i : ℕ). get_or (set ws (bell_at k) y) (bell_at i) 0 ≡ bell_value (turn h.events) i) (sym is)
         (get_or-set_same ws (bell_at k) y 0 (omega (arith, wide, small)) ∙ sym here))
         (λ ne. get_or-set_other ws (bell_at k) (bell_at j) y 0 (λ eq. ne (omega (arith, eq))) ∙ t.bells j b
         ∙ sym (else_ j ne));
@@ -73,22 +73,22 @@ module _ {D : Type 0} (first n : ℕ) where
         let r = rings_due j (turn h.events) (for_next (turn h.events) j (sym p.next_is)) in
         rewritten f h tokens ws j 1 small (ap taken p.inside) r.busy
         (admissions-other f (event x.state) (no_admit f (event x.state) p.allowed (held_busy k _ p.inside))) r.here
-        (λ i ne. r.else_ i ne ∙ sym (ap (λ (u : Turn). rung u i) p.inside)) t
+        (λ i ne. r.else_ i ne ∙ sym (ap (λ (u : Turn). bell_value u i) p.inside)) t
         (still_outside f (event x.state) k t.queue p.mine (outside-held f.events k p.inside) t.are_outside))
 
-    pub hears_ok : (slots id k : ℕ) (f : History D) (st : Step (Option (Guarded D)))
-        → Allows K slots id (alone k f, []) (bell_at k) (λ _. 0) (hears rest ready st (alone k f, []))
-    hears_ok slots id k f st =
-        frame.told_as K slots id (alone k f, []) (bell_at k) (λ _. 0) _ (hears rest ready st (alone k f, []))
+    pub takes_bell_ok : (slots id k : ℕ) (f : History D) (st : Step (Option (Guarded D)))
+        → Allows K slots id (alone k f, []) (bell_at k) (λ _. 0) (takes_bell rest ready st (alone k f, []))
+    takes_bell_ok slots id k f st =
+        frame.told_as K slots id (alone k f, []) (bell_at k) (λ _. 0) _ (takes_bell rest ready st (alone k f, []))
         (λ r m c j g is. let q = frame.alone_is k j f g [] [] is in
-        subst (λ (p : ℕ × History D). HearsAt rest ready p.0 p.1 (alone k f, []) r m) (λ i. (q.0 i, q.1 i)) c)
+        subst (λ (p : ℕ × History D). TakesBellAt rest ready p.0 p.1 (alone k f, []) r m) (λ i. (q.0 i, q.1 i)) c)
         (frame.comes_ok (Initial first n) (WordsFit first n) rest ready kinds n slots id k (bell_at k) f None None (due
         k f)
         (λ _. 0) (λ r. r ≡ 1) (λ log. Unit {0})
         (λ r. ℕ_discrete r 1)
         (λ log tokens ws small t miss. let b = t.bells k small in
-        sym (b ∙ rung_else (turn log.events) k (λ one. miss (b ∙ one))))
-        (λ log tokens ws stands places small same has t hit. let is = rung_due (turn log.events) k
+        sym (b ∙ bell_else (turn log.events) k (λ one. miss (b ∙ one))))
+        (λ log tokens ws stands places small same has t hit. let is = bell_due (turn log.events) k
         (sym (t.bells k small) ∙ hit) in let r = rings_due k (turn log.events) is in
         let e = frame.enters_due rest ready k log f stands same is in
         let h : History D = with_event log (due k f (latest_data log)) in record {
@@ -102,8 +102,8 @@ module _ {D : Type 0} (first n : ℕ) where
               rewritten log h tokens ws k 0 small r.busy (ap taken e.inside)
               (admissions-other log (due k f (latest_data log))
               (no_admit log (due k f (latest_data log)) e.allowed (due_busy k _ is))) (ap
-              (λ (u : Turn). rung u k) e.inside)
-              (λ j ne. ap (λ (u : Turn). rung u j) e.inside ∙ sym (r.else_ j ne)) t
+              (λ (u : Turn). bell_value u k) e.inside)
+              (λ j ne. ap (λ (u : Turn). bell_value u j) e.inside ∙ sym (r.else_ j ne)) t
               (still_outside log (due k f (latest_data log)) k t.queue e.mine (due_inside log k stands.legal is)
               t.are_outside);
         }))
@@ -121,11 +121,11 @@ module _ {D : Type 0} (first n : ℕ) where
         (λ i. (sym is i, sym here i))
         (gives_ring slots id k j f x event (step slots (bell_at j) 1 0 none) small p)
 
-    pub hears_at : (slots id k : ℕ) (f : History D) (bell : ℕ) (m : SeatState D) → m ≡ (alone k f, [])
+    pub takes_bell_at : (slots id k : ℕ) (f : History D) (bell : ℕ) (m : SeatState D) → m ≡ (alone k f, [])
         → bell ≡ bell_at k
-        → Allows K slots id m bell (λ _. 0) (hears rest ready (step slots bell 0 0 none) m)
-    hears_at slots id k f bell m is here =
-        subst (λ (q : SeatState D × ℕ). Allows K slots id q.0 q.1 (λ _. 0) (hears rest ready (step slots q.1 0 0 none)
+        → Allows K slots id m bell (λ _. 0) (takes_bell rest ready (step slots bell 0 0 none) m)
+    takes_bell_at slots id k f bell m is here =
+        subst (λ (q : SeatState D × ℕ). Allows K slots id q.0 q.1 (λ _. 0) (takes_bell rest ready (step slots q.1 0 0 none)
         q.0))
         (λ i. (sym is i, sym here i))
-        (hears_ok slots id k f (step slots (bell_at k) 0 0 none))
+        (takes_bell_ok slots id k f (step slots (bell_at k) 0 0 none))

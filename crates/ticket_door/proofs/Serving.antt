@@ -34,17 +34,17 @@ use Rattle.hoare_law.specs.Admissions.{admissions}
 use Rattle.ticket_door.specs.Queue.{ticket_in}
 use Rattle.door_frame.specs.declared.view.Token.{Token}
 use Rattle.door_frame.specs.declared.view.Token.TheVariants as token
-use Rattle.ticket_door.specs.Rule.{Initial, WordsFit, Gate, ajar, shut, token_in, IsKept, next_at, serving_at, bell_at}
-use Rattle.ticket_door.specs.Rule.{taken, rung}
-use Rattle.ticket_door.specs.Steps.{asks, looks, LooksAt, TakesTicket}
+use Rattle.ticket_door.specs.Rule.{Initial, WordsFit, Gate, open_gate, shut, token_in, IsKept, next_at, serving_at, bell_at}
+use Rattle.ticket_door.specs.Rule.{taken, bell_value}
+use Rattle.ticket_door.specs.Steps.{takes_ticket, polls_ticket, PollsTicketAt, TakesTicket}
 use Rattle.hoare_law.proofs.Admissions.{admissions-admit, admissions-other}
-use Rattle.ticket_door.proofs.Gate.{has_ticket, has_none, asks_tokens, asks_kept, serves_kept}
+use Rattle.ticket_door.proofs.Gate.{has_ticket, has_none, takes_ticket_tokens, takes_ticket_kept, serves_kept}
 use Rattle.ticket_door.proofs.Learning.{draws_and_learns}
 use Rattle.ticket_door.proofs.Queue.{Ticket-injective, ticket_range, ticket_first, none_ticket, ticket_else}
 use Rattle.ticket_door.proofs.Queue.{once_more, all_more}
 use Rattle.ticket_door.proofs.Turns.{taken_le, taken_free, free_next, no_admit, held_busy, next_word, next_turn}
 use Rattle.ticket_door.proofs.Turns.{still_outside}
-use Rattle.ticket_door.proofs.Turns.{served_only, even_ajar, open_bit}
+use Rattle.ticket_door.proofs.Turns.{served_only, even_open, open_bit}
 
 module _ {D : Type 0} (first n : ℕ) where
   -- the queue is shorter than n, if place k isn't in it
@@ -93,7 +93,7 @@ module _ {D : Type 0} (first n : ℕ) where
         below = all_more (λ (j : ℕ). j < n) q k small t.below;
         are_outside = all_more (λ (j : ℕ). outside j log.events ≡ true) q k out t.are_outside;
         gate = t.gate;
-        tokens_are = asks_tokens t.gate a q k tokens t.tokens_are none;
+        tokens_are = takes_ticket_tokens t.gate a q k tokens t.tokens_are none;
         next =
             get_or-set_same ws next_at _ 0 (omega (arith, wide)) ∙ ap (λ (m : ℕ). (m + 1) % 2 ^ 64) t.next
             ∙ next_word first x ∙ ap (λ (m : ℕ). (first + m) % 2 ^ 64)
@@ -102,49 +102,49 @@ module _ {D : Type 0} (first n : ℕ) where
         served = t.served;
         due = t.due;
         serving = get_or-set_other ws next_at serving_at _ 0 (λ e. omega (arith, e)) ∙ t.serving;
-        kept = asks_kept t.gate first t.served a q k has t.kept;
+        kept = takes_ticket_kept t.gate first t.served a q k has t.kept;
         bells = λ j b. get_or-set_other ws next_at (bell_at j) _ 0 (λ e. omega (arith, e)) ∙ t.bells j b;
       }
 
   -- the first of the queue is admitted
   looked : (log : History D) (tokens : Tokens) (ws : List ℕ) (k : ℕ) (rest : List ℕ) (s : D)
-      → (t : WordsFit first n log tokens ws) → t.gate ≡ ajar → t.queue ≡ k ∷ rest → turn log.events ≡ Free
+      → (t : WordsFit first n log tokens ws) → t.gate ≡ open_gate → t.queue ≡ k ∷ rest → turn log.events ≡ Free
       → turn (with_event log (Admit k s)).events ≡ Held k
       → WordsFit first n (with_event log (Admit k s)) (given_to tokens k None) (set ws serving_at (get_or ws serving_at
       0))
   unfolding with_event
-  looked log tokens ws k rest s t is_ajar is free held =
+  looked log tokens ws k rest s t is_open is free held =
       let a : ℕ = admissions log.events in
       let h : History D = with_event log (Admit k s) in let more = admissions-admit log k s in
       let out : times k rest ≡ 0 = let once = subst (λ (q : List ℕ). times k q ≤ 1) is (t.once k) in
       omega (arith, once, one_same k) in
       let before : taken (turn log.events) ≡ 0 = ap taken free in
       let after : taken (turn h.events) ≡ 1 = ap taken held in
-      let asks_too : (j : ℕ) → 0 < times j rest → 0 < times j t.queue = λ j some.
+      let takes_ticket_too : (j : ℕ) → 0 < times j rest → 0 < times j t.queue = λ j some.
       subst (λ (q : List ℕ). 0 < times j q) (sym is) (omega (arith, some)) in
       subst (WordsFit first n h (given_to tokens k None)) (sym (set-get_or ws serving_at 0)) (record {
         words_are = t.words_are;
         queue = rest;
         once = λ j. let once = subst (λ (q : List ℕ). times j q ≤ 1) is (t.once j) in omega (arith, once);
-        below = λ j some. t.below j (asks_too j some);
+        below = λ j some. t.below j (takes_ticket_too j some);
         are_outside = λ j some.
             let apart : k ≢ j = λ same. let z = subst (λ (i : ℕ). times i rest ≡ 0) same out in
             omega (arith, z, some) in
-            outside-other j log.events (Admit k s) apart ∙ t.are_outside j (asks_too j some);
-        gate = ajar;
+            outside-other j log.events (Admit k s) apart ∙ t.are_outside j (takes_ticket_too j some);
+        gate = open_gate;
         tokens_are = λ j. dite (ℕ_discrete j k)
             (λ same. subst (λ (i : ℕ). given_to tokens k None i ≡ ticket_in (admissions h.events) rest i) (sym same)
             (given_here tokens k None ∙ sym (none_ticket (admissions h.events) rest k out)))
-            (λ ne. given_else tokens k None j ne ∙ t.tokens_are j ∙ (λ i. token_in (is_ajar i) a (is i) j)
+            (λ ne. given_else tokens k None j ne ∙ t.tokens_are j ∙ (λ i. token_in (is_open i) a (is i) j)
             ∙ ticket_else a j k rest ne ∙ ap (λ (m : ℕ). ticket_in m rest j)
             (let same : suc a ≡ admissions h.events = omega (arith, more) in same));
         next = t.next ∙ ap (λ (m : ℕ). (first + m) % 2 ^ 64) (let l = ap length is in
             let same : a + length t.queue ≡ admissions h.events + length rest = omega (arith, l, more) in same);
         served = t.served;
         due = let d = t.due in omega (arith, d, before, after, more);
-        serving = t.serving ∙ ap (λ (g : Gate). (2 * (first + t.served) + shut g) % 2 ^ 64) is_ajar;
+        serving = t.serving ∙ ap (λ (g : Gate). (2 * (first + t.served) + shut g) % 2 ^ 64) is_open;
         kept = tt;
-        bells = λ j b. t.bells j b ∙ (ap (λ (u : Turn). rung u j) free ∙ sym (ap (λ (u : Turn). rung u j) held));
+        bells = λ j b. t.bells j b ∙ (ap (λ (u : Turn). bell_value u j) free ∙ sym (ap (λ (u : Turn). bell_value u j) held));
       })
 
   -- the next ticket is served
@@ -173,7 +173,7 @@ module _ {D : Type 0} (first n : ℕ) where
             subst (λ (m : ℕ). IsKept first (t.served + 1) m t.queue t.gate) (sym same)
             (serves_kept t.gate first t.served (admissions f.events) t.queue t.kept);
         bells = λ j b. get_or-set_other ws serving_at (bell_at j) _ 0 (λ eq. omega (arith, eq)) ∙ t.bells j b
-            ∙ (ap (λ (u : Turn). rung u j) held ∙ sym (ap (λ (u : Turn). rung u j) free));
+            ∙ (ap (λ (u : Turn). bell_value u j) held ∙ sym (ap (λ (u : Turn). bell_value u j) free));
       }
 
   -- an event by which a place stays inside changes neither the tickets nor the words
@@ -196,7 +196,7 @@ module _ {D : Type 0} (first n : ℕ) where
         due = ap (λ (u : Turn). t.served + taken u) (sym turns) ∙ t.due ∙ sym same;
         serving = t.serving;
         kept = subst (λ (m : ℕ). IsKept first t.served m t.queue t.gate) (sym same) t.kept;
-        bells = λ j b. t.bells j b ∙ ap (λ (u : Turn). rung u j) turns;
+        bells = λ j b. t.bells j b ∙ ap (λ (u : Turn). bell_value u j) turns;
       }
 
   module _ (rest : Rest D) (ready : Ready D) (kinds : Kinds) where
@@ -235,12 +235,12 @@ module _ {D : Type 0} (first n : ℕ) where
       d.3.2,
     )
 
-    pub asks_ok : (slots id k : ℕ) (f : History D) (st : Step (Option (Guarded D))) → outside k f.events ≡ true
+    pub takes_ticket_ok : (slots id k : ℕ) (f : History D) (st : Step (Option (Guarded D))) → outside k f.events ≡ true
         → Allows K slots id (alone k f, []) next_at (λ r. (r + 1) % 2 ^ 64)
-        (asks first n rest ready st (alone k f, []))
-    asks_ok slots id k f st out =
+        (takes_ticket first n rest ready st (alone k f, []))
+    takes_ticket_ok slots id k f st out =
         frame.told_as K slots id (alone k f, []) next_at (λ r. (r + 1) % 2 ^ 64) _
-        (asks first n rest ready st (alone k f, []))
+        (takes_ticket first n rest ready st (alone k f, []))
         (λ r m (d : Drawn k f r m) j g is. let q = frame.alone_is k j f g [] [] is in takes k j f g r m q.0 q.1 d)
         (draws_and_learns (Initial first n) (WordsFit first n) rest ready kinds n slots id k next_at f None
         (λ r. (r + 1) % 2 ^ 64) IsNext
@@ -264,12 +264,12 @@ module _ {D : Type 0} (first n : ℕ) where
         → get_or ws serving_at 0 ≡ (2 * (first + x)) % 2 ^ 64 → Admits k x log tokens ws
     brings k x f log tokens ws few out stands places small same has t hit =
         let a : ℕ = admissions log.events in
-        let is_ajar : t.gate ≡ ajar = even_ajar (first + t.served) (first + x) t.gate (sym t.serving ∙ hit) in
+        let is_open : t.gate ≡ open_gate = even_open (first + t.served) (first + x) t.gate (sym t.serving ∙ hit) in
         let drew = has_ticket t.gate a t.queue k x (sym (t.tokens_are k) ∙ has) in
         let r = ticket_range a t.queue k x drew in let d = t.due in
         let ahead = near stands.legal places t in
         let word : (2 * (first + t.served)) % 2 ^ 64 ≡ (2 * (first + x)) % 2 ^ 64 =
-        open_bit (first + t.served) ∙ ap (λ (g : Gate). (2 * (first + t.served) + shut g) % 2 ^ 64) (sym is_ajar)
+        open_bit (first + t.served) ∙ ap (λ (g : Gate). (2 * (first + t.served) + shut g) % 2 ^ 64) (sym is_open)
         ∙ sym t.serving ∙ hit in
         let now : t.served ≡ x =
         served_only first t.served x (omega (arith, r.0, d)) (omega (arith, r.1, ahead, few)) word in
@@ -287,17 +287,17 @@ module _ {D : Type 0} (first n : ℕ) where
           tokens' = given_to tokens k None;
           token_now = given_here tokens k None;
           others = λ j ne. given_else tokens k None j ne;
-          tells = looked log tokens ws k firsts.0 (latest_data log) t is_ajar firsts.1 free e.inside;
+          tells = looked log tokens ws k firsts.0 (latest_data log) t is_open firsts.1 free e.inside;
         }
 
-    pub looks_ok : (slots id k x : ℕ) (f : History D) (st : Step (Option (Guarded D))) → n ≤ 64
+    pub polls_ticket_ok : (slots id k x : ℕ) (f : History D) (st : Step (Option (Guarded D))) → n ≤ 64
         → outside k f.events ≡ true → Allows K slots id (asking k f x, []) serving_at (λ r. r)
-        (looks first rest ready st (asking k f x, []))
-    looks_ok slots id k x f st few out =
-        frame.told_as K slots id (asking k f x, []) serving_at (λ r. r) _ (looks first rest ready st (asking k f x, []))
+        (polls_ticket first rest ready st (asking k f x, []))
+    polls_ticket_ok slots id k x f st few out =
+        frame.told_as K slots id (asking k f x, []) serving_at (λ r. r) _ (polls_ticket first rest ready st (asking k f x, []))
         (λ r m c j g y is. let q = frame.sole_is k j f g (Some (token.Ticket x)) (Some (token.Ticket y)) [] [] is in
         let same : x ≡ y = Ticket-injective x y q.2 in
-        subst (λ (p : ℕ × (History D × ℕ)). LooksAt first rest ready p.0 p.1.0 p.1.1 (asking k f x, []) r m)
+        subst (λ (p : ℕ × (History D × ℕ)). PollsTicketAt first rest ready p.0 p.1.0 p.1.1 (asking k f x, []) r m)
         (λ i. (q.0 i, (q.1 i, same i))) c)
         (frame.comes_ok (Initial first n) (WordsFit first n) rest ready kinds n slots id k serving_at f
         (Some (token.Ticket x)) None (Admit k) (λ r. r) (λ r. r ≡ (2 * (first + x)) % 2 ^ 64)
@@ -308,21 +308,21 @@ module _ {D : Type 0} (first n : ℕ) where
         same has t hit))
 
     -- the same of a seat with that view
-    pub asks_at : (slots id k : ℕ) (f : History D) (st : Step (Option (Guarded D))) (m : SeatState D) (start places : ℕ)
+    pub takes_ticket_at : (slots id k : ℕ) (f : History D) (st : Step (Option (Guarded D))) (m : SeatState D) (start places : ℕ)
         → m ≡ (alone k f, []) → first ≡ start → n ≡ places → outside k f.events ≡ true
-        → Allows K slots id m next_at (λ r. (r + 1) % 2 ^ 64) (asks start places rest ready st m)
-    asks_at slots id k f st m start places is same sized out =
+        → Allows K slots id m next_at (λ r. (r + 1) % 2 ^ 64) (takes_ticket start places rest ready st m)
+    takes_ticket_at slots id k f st m start places is same sized out =
         subst (λ (p : SeatState D × (ℕ × ℕ)). Allows K slots id p.0 next_at (λ r. (r + 1) % 2 ^ 64)
-        (asks p.1.0 p.1.1 rest ready st p.0))
-        (λ i. (sym is i, (same i, sized i))) (asks_ok slots id k f st out)
+        (takes_ticket p.1.0 p.1.1 rest ready st p.0))
+        (λ i. (sym is i, (same i, sized i))) (takes_ticket_ok slots id k f st out)
 
-    pub looks_at : (slots id k x : ℕ) (f : History D) (st : Step (Option (Guarded D))) (m : SeatState D) (start : ℕ)
+    pub polls_ticket_at : (slots id k x : ℕ) (f : History D) (st : Step (Option (Guarded D))) (m : SeatState D) (start : ℕ)
         → m ≡ (asking k f x, []) → first ≡ start → n ≤ 64 → outside k f.events ≡ true
-        → Allows K slots id m serving_at (λ r. r) (looks start rest ready st m)
-    looks_at slots id k x f st m start is same few out =
-        subst (λ (p : SeatState D × ℕ). Allows K slots id p.0 serving_at (λ r. r) (looks p.1 rest ready st p.0))
+        → Allows K slots id m serving_at (λ r. r) (polls_ticket start rest ready st m)
+    polls_ticket_at slots id k x f st m start is same few out =
+        subst (λ (p : SeatState D × ℕ). Allows K slots id p.0 serving_at (λ r. r) (polls_ticket p.1 rest ready st p.0))
         (λ i. (sym is i, same i))
-        (looks_ok slots id k x f st few out)
+        (polls_ticket_ok slots id k x f st few out)
 
     -- a place that releases the monitor, if no place resumes, opens it to the next ticket
     pub gives_open : (slots id k : ℕ) (f : History D) (x : Guarded D) (event : D → Event D)

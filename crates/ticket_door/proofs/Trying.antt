@@ -30,12 +30,12 @@ use Rattle.door_frame.specs.Steps.{SeatState, EnteredBy, EnteredWith}
 use Rattle.door_frame.specs.Views.{alone, trying, sole}
 use Rattle.door_frame.proofs.Steps as frame
 use Rattle.door_frame.proofs.Views.{given_to, given_here, given_else}
-use Rattle.ticket_door.specs.Rule.{Initial, WordsFit, Gate, ajar, shut_by, shut, token_in, CloseGate, IsKept, next_at}
-use Rattle.ticket_door.specs.Rule.{serving_at, bell_at, taken, rung}
+use Rattle.ticket_door.specs.Rule.{Initial, WordsFit, Gate, open_gate, shut_by, shut, token_in, CloseGate, IsKept, next_at}
+use Rattle.ticket_door.specs.Rule.{serving_at, bell_at, taken, bell_value}
 use Rattle.ticket_door.specs.Tries.{IsTrying, HasGate, IsAdmitted, Reopened}
-use Rattle.ticket_door.specs.Steps.{shuts, tries, TriesAt, reopens}
-use Rattle.ticket_door.proofs.Gate.{has_none, has_gate, shuts_tokens, reopens_tokens}
-use Rattle.ticket_door.proofs.Turns.{taken_le, taken_free, next_word, even_ajar, open_bit, shut_word, open_word}
+use Rattle.ticket_door.specs.Steps.{closes_gate, admits_try, AdmitsTryAt, opens_gate}
+use Rattle.ticket_door.proofs.Gate.{has_none, has_gate, closes_gate_tokens, opens_gate_tokens}
+use Rattle.ticket_door.proofs.Turns.{taken_le, taken_free, next_word, even_open, open_bit, shut_word, open_word}
 
 -- a word after a compare-exchange that expects v
 abbrev pub changed : ℕ → ℕ → ℕ → ℕ
@@ -86,13 +86,13 @@ module _ {D : Type 0} (first n : ℕ) where
   -- k has the gate
   gate_shut : (log : History D) (tokens : Tokens) (ws : List ℕ) (k v : ℕ) → tokens k ≡ None
       → (t : WordsFit first n log tokens ws)
-      → t.gate ≡ ajar → get_or ws serving_at 0 ≡ v
+      → t.gate ≡ open_gate → get_or ws serving_at 0 ≡ v
       → WordsFit first n log (given_to tokens k (Some (token.Gate v))) (set ws serving_at (v + 1))
-  gate_shut log tokens ws k v free t is_ajar found =
+  gate_shut log tokens ws k v free t is_open found =
       let a : ℕ = admissions log.events in
       let wide = t.words_are in
       let word : v ≡ (2 * (first + t.served)) % 2 ^ 64 =
-      sym found ∙ t.serving ∙ ap (λ (g : Gate). (2 * (first + t.served) + shut g) % 2 ^ 64) is_ajar
+      sym found ∙ t.serving ∙ ap (λ (g : Gate). (2 * (first + t.served) + shut g) % 2 ^ 64) is_open
       ∙ sym (open_bit (first + t.served)) in
       let le1 = taken_le (turn log.events) in
       let d = t.due in record {
@@ -103,7 +103,7 @@ module _ {D : Type 0} (first n : ℕ) where
         are_outside = t.are_outside;
         gate = shut_by k v;
         tokens_are =
-            shuts_tokens a t.queue k v tokens (λ j. t.tokens_are j ∙ ap (λ (g : Gate). token_in g a t.queue j) is_ajar);
+            closes_gate_tokens a t.queue k v tokens (λ j. t.tokens_are j ∙ ap (λ (g : Gate). token_in g a t.queue j) is_open);
         next = get_or-set_other ws serving_at next_at _ 0 (λ e. omega (arith, e)) ∙ t.next;
         served = t.served;
         due = t.due;
@@ -135,9 +135,9 @@ module _ {D : Type 0} (first n : ℕ) where
         once = t.once;
         below = t.below;
         are_outside = t.are_outside;
-        gate = ajar;
+        gate = open_gate;
         tokens_are =
-            reopens_tokens a t.queue k v tokens (λ j. t.tokens_are j ∙ ap (λ (g : Gate). token_in g a t.queue j) by)
+            opens_gate_tokens a t.queue k v tokens (λ j. t.tokens_are j ∙ ap (λ (g : Gate). token_in g a t.queue j) by)
             kept.apart;
         next = get_or-set_other ws serving_at next_at _ 0 (λ e. omega (arith, e)) ∙ t.next;
         served = t.served;
@@ -193,7 +193,7 @@ module _ {D : Type 0} (first n : ℕ) where
         };
         bells = λ j b.
             get_or-set_other ws next_at (bell_at j) _ 0 (λ e. omega (arith, e)) ∙ t.bells j b
-            ∙ (ap (λ (u : Turn). rung u j) free ∙ sym (ap (λ (u : Turn). rung u j) held));
+            ∙ (ap (λ (u : Turn). bell_value u j) free ∙ sym (ap (λ (u : Turn). bell_value u j) held));
       }
     where
       no_length : (q : List ℕ) → length q ≡ 0 → q ≡ []
@@ -211,12 +211,12 @@ module _ {D : Type 0} (first n : ℕ) where
     abbrev ShutAt : ℕ → ℕ → History D → ℕ → SeatState D → Type 0
     ShutAt v k f r m = (o : Option Token) × (m ≡ (sole k f o, [])) × IsShutAt v o r
 
-    shuts_ok : (slots id k v b : ℕ) (f : History D) → v ≡ (2 * b) % 2 ^ 64
+    closes_gate_ok : (slots id k v b : ℕ) (f : History D) → v ≡ (2 * b) % 2 ^ 64
         → Allows K slots id (alone k f, []) serving_at (changed v (v + 1))
-        (shuts (step slots serving_at v (v + 1) none) (alone k f, []))
-    shuts_ok slots id k v b f even =
+        (closes_gate (step slots serving_at v (v + 1) none) (alone k f, []))
+    closes_gate_ok slots id k v b f even =
         frame.told_as K slots id (alone k f, []) serving_at (changed v (v + 1)) _
-        (shuts (step slots serving_at v (v + 1) none) (alone k f, []))
+        (closes_gate (step slots serving_at v (v + 1) none) (alone k f, []))
         (λ r m (d : ShutAt v k f r m) j g is. let q = frame.alone_is k j f g [] [] is in (
           (λ miss. d.1 ∙ (λ i. (sole k f (d.2.0 miss i), []))),
           λ hit. d.1 ∙ (λ i. (sole (q.0 i) (q.1 i) (d.2.1 hit i), [])),
@@ -225,14 +225,14 @@ module _ {D : Type 0} (first n : ℕ) where
         (changed v (v + 1)) (IsShutAt v)
         (λ log tokens ws small same free t. dite (ℕ_discrete (get_or ws serving_at 0) v)
         (λ hit. let o : Option Token = Some (token.Gate v) in
-        let is_ajar : t.gate ≡ ajar = even_ajar (first + t.served) b t.gate (sym t.serving ∙ hit ∙ even) in (
+        let is_open : t.gate ≡ open_gate = even_open (first + t.served) b t.gate (sym t.serving ∙ hit ∙ even) in (
           o,
           given_to tokens k o,
           given_here tokens k o,
           (λ j ne. given_else tokens k o j ne),
           subst (λ (w : ℕ). WordsFit first n log (given_to tokens k o) (set ws serving_at w))
               (sym (changed-hit v (v + 1) (get_or ws serving_at 0) hit))
-              (gate_shut log tokens ws k v free t is_ajar hit),
+              (gate_shut log tokens ws k v free t is_open hit),
           ((λ miss. absurd (miss hit)), λ _. refl),
         ))
         (λ miss. (
@@ -247,14 +247,14 @@ module _ {D : Type 0} (first n : ℕ) where
         ))))
 
     -- a seat with that view, and the words that the call has
-    pub shuts_at : (slots id k v u b : ℕ) (f : History D) (m : SeatState D) → m ≡ (alone k f, []) → v ≡ (2 * b) % 2 ^ 64
+    pub closes_gate_at : (slots id k v u b : ℕ) (f : History D) (m : SeatState D) → m ≡ (alone k f, []) → v ≡ (2 * b) % 2 ^ 64
         → u ≡ v + 1
-        → Allows K slots id m serving_at (changed v u) (shuts (step slots serving_at v u none) m)
-    shuts_at slots id k v u b f m is even more =
+        → Allows K slots id m serving_at (changed v u) (closes_gate (step slots serving_at v u none) m)
+    closes_gate_at slots id k v u b f m is even more =
         subst
         (λ (p : SeatState D × ℕ). Allows K slots id p.0 serving_at (changed v p.1)
-        (shuts (step slots serving_at v p.1 none) p.0))
-        (λ i. (sym is i, sym more i)) (shuts_ok slots id k v b f even)
+        (closes_gate (step slots serving_at v p.1 none) p.0))
+        (λ i. (sym is i, sym more i)) (closes_gate_ok slots id k v b f even)
 
     abbrev TriesIn : ℕ → ℕ → History D → Tokens → List ℕ → Type 0
     TriesIn k w log tokens ws =
@@ -294,16 +294,16 @@ module _ {D : Type 0} (first n : ℕ) where
               (tried log tokens ws k v w (latest_data log) t by kept is hit free e.inside);
         }
 
-    tries_ok : (slots id k v w : ℕ) (f : History D) → n ≤ 64 → outside k f.events ≡ true → v ≡ (2 * w) % 2 ^ 64
+    admits_try_ok : (slots id k v w : ℕ) (f : History D) → n ≤ 64 → outside k f.events ≡ true → v ≡ (2 * w) % 2 ^ 64
         → Allows K slots id (trying k f v, []) next_at (changed w ((w + 1) % 2 ^ 64))
-        (tries rest ready (step slots next_at w ((w + 1) % 2 ^ 64) none) (trying k f v, []))
-    tries_ok slots id k v w f few out word =
+        (admits_try rest ready (step slots next_at w ((w + 1) % 2 ^ 64) none) (trying k f v, []))
+    admits_try_ok slots id k v w f few out word =
         let o : Option Token = Some (token.Gate v) in
         frame.told_as K slots id (trying k f v, []) next_at (changed w ((w + 1) % 2 ^ 64)) _
-        (tries rest ready (step slots next_at w ((w + 1) % 2 ^ 64) none) (trying k f v, []))
+        (admits_try rest ready (step slots next_at w ((w + 1) % 2 ^ 64) none) (trying k f v, []))
         (λ r m c j g y is. let q = frame.sole_is k j f g o (Some (token.Gate y)) [] [] is in
         let same : v ≡ y = gate_is v y q.2 in
-        subst (λ (p : ℕ × (History D × ℕ)). TriesAt w rest ready p.0 p.1.0 p.1.1 (trying k f v, []) r m)
+        subst (λ (p : ℕ × (History D × ℕ)). AdmitsTryAt w rest ready p.0 p.1.0 p.1.1 (trying k f v, []) r m)
         (λ i. (q.0 i, (q.1 i, same i))) c)
         (frame.comes_ok (Initial first n) (WordsFit first n) rest ready kinds n slots id k next_at f o o (Admit k)
         (changed w ((w + 1) % 2 ^ 64)) (λ r. r ≡ w) (λ log. Unit {0}) (λ r. ℕ_discrete r w)
@@ -314,26 +314,26 @@ module _ {D : Type 0} (first n : ℕ) where
         (changed w ((w + 1) % 2 ^ 64)) (λ h. Unit {0}) log tokens ws (Admit k (latest_data log))) has
         (brings k v w f log tokens ws few out word stands places small same has t hit)))
 
-    pub tries_at : (slots id k v w u : ℕ) (f : History D) (m : SeatState D) → m ≡ (trying k f v, []) → n ≤ 64
+    pub admits_try_at : (slots id k v w u : ℕ) (f : History D) (m : SeatState D) → m ≡ (trying k f v, []) → n ≤ 64
         → outside k f.events ≡ true
         → v ≡ (2 * w) % 2 ^ 64 → u ≡ (w + 1) % 2 ^ 64
-        → Allows K slots id m next_at (changed w u) (tries rest ready (step slots next_at w u none) m)
-    tries_at slots id k v w u f m is few out word more =
+        → Allows K slots id m next_at (changed w u) (admits_try rest ready (step slots next_at w u none) m)
+    admits_try_at slots id k v w u f m is few out word more =
         subst
         (λ (p : SeatState D × ℕ). Allows K slots id p.0 next_at (changed w p.1)
-        (tries rest ready (step slots next_at w p.1 none) p.0))
-        (λ i. (sym is i, sym more i)) (tries_ok slots id k v w f few out word)
+        (admits_try rest ready (step slots next_at w p.1 none) p.0))
+        (λ i. (sym is i, sym more i)) (admits_try_ok slots id k v w f few out word)
 
     abbrev Opened : ℕ → History D → List (ℕ × Option (Guarded D)) → ℕ → SeatState D → Type 0
     Opened k f c r m = (o : Option Token) × (m ≡ (sole k f o, c)) × (o ≡ None)
 
-    reopens_ok : (slots id k v : ℕ) (f : History D) (c : List (ℕ × Option (Guarded D))) (st : Step (Option (Guarded D)))
+    opens_gate_ok : (slots id k v : ℕ) (f : History D) (c : List (ℕ × Option (Guarded D))) (st : Step (Option (Guarded D)))
         → Allows K slots id (trying k f v, c) serving_at (λ r. (r + (2 ^ 64 - 1)) % 2 ^ 64)
-        (reopens st (trying k f v, c))
-    reopens_ok slots id k v f c st =
+        (opens_gate st (trying k f v, c))
+    opens_gate_ok slots id k v f c st =
         let o : Option Token = Some (token.Gate v) in
         frame.told_as K slots id (trying k f v, c) serving_at (λ r. (r + (2 ^ 64 - 1)) % 2 ^ 64) _
-        (reopens st (trying k f v, c))
+        (opens_gate st (trying k f v, c))
         (λ r m (d : Opened k f c r m) j g y e is. let q = frame.sole_is k j f g o (Some (token.Gate y)) c e is in
         d.1 ∙ (λ i. (sole (q.0 i) (q.1 i) (d.2 i), q.3 i)))
         (frame.draws_ok (Initial first n) (WordsFit first n) rest ready kinds n slots id k serving_at f o c
@@ -347,14 +347,14 @@ module _ {D : Type 0} (first n : ℕ) where
           refl,
         )))
 
-    pub reopens_at : (slots id k v : ℕ) (f : History D) (c : List (ℕ × Option (Guarded D)))
+    pub opens_gate_at : (slots id k v : ℕ) (f : History D) (c : List (ℕ × Option (Guarded D)))
         (st : Step (Option (Guarded D))) (m : SeatState D)
         → m ≡ (trying k f v, c)
-        → Allows K slots id m serving_at (λ r. (r + (2 ^ 64 - 1)) % 2 ^ 64) (reopens st m)
-    reopens_at slots id k v f c st m is =
-        subst (λ (p : SeatState D). Allows K slots id p serving_at (λ r. (r + (2 ^ 64 - 1)) % 2 ^ 64) (reopens st p))
+        → Allows K slots id m serving_at (λ r. (r + (2 ^ 64 - 1)) % 2 ^ 64) (opens_gate st m)
+    opens_gate_at slots id k v f c st m is =
+        subst (λ (p : SeatState D). Allows K slots id p serving_at (λ r. (r + (2 ^ 64 - 1)) % 2 ^ 64) (opens_gate st p))
         (sym is)
-        (reopens_ok slots id k v f c st)
+        (opens_gate_ok slots id k v f c st)
 
 module _ {D : Type 0} {rest : Rest D} {ready : Ready D} {k v : ℕ} {m m' : SeatState D} where
   -- a place that tried still has the gate, admitted or not

@@ -21,7 +21,7 @@ use Rattle.wait_book.specs.declared.steps.Next.TheVariants as next
 use Rattle.wait_book.proofs.Times.{one_same, one_apart}
 use Rattle.door_frame.proofs.Steps.{IsDue, owed, returning}
 use Rattle.hoare_law.specs.Admissions.{is_admit}
-use Rattle.ticket_door.specs.Rule.{Gate, ajar, shut_by, shut, taken, rung}
+use Rattle.ticket_door.specs.Rule.{Gate, open_gate, shut_by, shut, taken, bell_value}
 
 pub taken_le : (t : Turn) → taken t ≤ 1
 taken_le Free = omega arith
@@ -44,8 +44,8 @@ free_next (Return k) e = absurd (cc)
 -- if the place j is due, its bell is rung, and no other is
 pub record Rings (j : ℕ) (t : Turn) : Type 0 where
   pub busy : taken t ≡ 1
-  pub here : rung t j ≡ 1
-  pub else_ : (k : ℕ) → k ≢ j → rung t k ≡ 0
+  pub here : bell_value t j ≡ 1
+  pub else_ : (k : ℕ) → k ≢ j → bell_value t k ≡ 0
 
 apart : (j k : ℕ) → k ≢ j → one j k ≡ 0
 apart j k ne = one_apart j k (ne_eqb j k (λ e. ne (sym e)))
@@ -69,18 +69,18 @@ bell_due : (j k : ℕ) → one j k ≡ 1 → j ≡ k
 bell_due j k e = dite (ℕ_discrete j k) (λ same. same) (λ ne. absurd (omega (arith, one_apart j k (ne_eqb j k ne), e)))
 
 -- a bell that isn't rung is silent
-pub rung_else : (t : Turn) (k : ℕ) → rung t k ≢ 1 → rung t k ≡ 0
-rung_else Free k n = refl
-rung_else (Held j) k n = refl
-rung_else (Owed j c) k n = bell_else j k n
-rung_else (Return j) k n = bell_else j k n
+pub bell_else : (t : Turn) (k : ℕ) → bell_value t k ≢ 1 → bell_value t k ≡ 0
+bell_else Free k n = refl
+bell_else (Held j) k n = refl
+bell_else (Owed j c) k n = bell_else j k n
+bell_else (Return j) k n = bell_else j k n
 
 -- a place whose bell is rung is due
-pub rung_due : (t : Turn) (k : ℕ) → rung t k ≡ 1 → IsDue k t
-rung_due Free k e = absurd (omega (arith, e))
-rung_due (Held j) k e = absurd (omega (arith, e))
-rung_due (Owed j c) k e = owed c (ap (λ i. Owed i c) (bell_due j k e))
-rung_due (Return j) k e = returning (ap (λ i. Return i) (bell_due j k e))
+pub bell_due : (t : Turn) (k : ℕ) → bell_value t k ≡ 1 → IsDue k t
+bell_due Free k e = absurd (omega (arith, e))
+bell_due (Held j) k e = absurd (omega (arith, e))
+bell_due (Owed j c) k e = owed c (ap (λ i. Owed i c) (bell_due j k e))
+bell_due (Return j) k e = returning (ap (λ i. Return i) (bell_due j k e))
 
 pub due_busy : (k : ℕ) (t : Turn) → IsDue k t → t ≢ Free
 due_busy k t (owed c is) e = let no : Owed k c ≡ Free = sym is ∙ e in cc
@@ -138,9 +138,9 @@ served_only first served x le lt e =
     omega (arith, same)
 
 -- if SERVING is even, the gate isn't shut
-pub even_ajar : (a b : ℕ) (g : Gate) → (2 * a + shut g) % 2 ^ 64 ≡ (2 * b) % 2 ^ 64 → g ≡ ajar
-even_ajar a b ajar e = refl
-even_ajar a b (shut_by k v) e = absurd (omega (arith, e))
+pub even_open : (a b : ℕ) (g : Gate) → (2 * a + shut g) % 2 ^ 64 ≡ (2 * b) % 2 ^ 64 → g ≡ open_gate
+even_open a b open_gate e = refl
+even_open a b (shut_by k v) e = absurd (omega (arith, e))
 
 -- the gate's bit is set, and cleared again
 pub shut_word : (a : ℕ) → (2 * a) % 2 ^ 64 + 1 ≡ (2 * a + 1) % 2 ^ 64

@@ -28,26 +28,26 @@ taken Free = 0
 taken _ = 1
 
 -- the bell of place k, given the turn: 1 if the monitor is owed to k, or returns to it, else 0
-abbrev pub rung : Turn → ℕ → ℕ
-rung Free k = 0
-rung (Held j) k = 0
-rung (Owed j c) k = one j k
-rung (Return j) k = one j k
+abbrev pub bell_value : Turn → ℕ → ℕ
+bell_value Free k = 0
+bell_value (Held j) k = 0
+bell_value (Owed j c) k = one j k
+bell_value (Return j) k = one j k
 
 -- the holder of the gate: nobody, so that polls admit entering threads; or the place k, which tries, and shut it when
 -- SERVING was v
 pub data Gate : Type 0 where
-  ajar : Gate
+  open_gate : Gate
   shut_by : ℕ → ℕ → Gate
 
 -- what is added to SERVING while the gate is shut
 abbrev pub shut : Gate → ℕ
-shut ajar = 0
+shut open_gate = 0
 shut (shut_by k v) = 1
 
 -- the token of place j: the gate if it shut the gate, else its ticket, if it has one
 abbrev pub token_in : Gate → ℕ → List ℕ → ℕ → Option Token
-token_in ajar a queue j = ticket_in a queue j
+token_in open_gate a queue j = ticket_in a queue j
 token_in (shut_by k v) a queue j = if j == k then Some (token.Gate v) else ticket_in a queue j
 
 -- no other place was admitted since the place k shut the gate: so at most one turn ended. And k has no ticket
@@ -59,7 +59,7 @@ pub record CloseGate (first k v served admitted : ℕ) (queue : List ℕ) : Type
   pub apart : times k queue ≡ 0
 
 abbrev pub IsKept : ℕ → ℕ → ℕ → List ℕ → Gate → Type 0
-IsKept first served admitted queue ajar = Unit {0}
+IsKept first served admitted queue open_gate = Unit {0}
 IsKept first served admitted queue (shut_by k v) = CloseGate first k v served admitted queue
 
 -- the words before the door opens
@@ -89,7 +89,7 @@ pub record WordsFit {D : Type 0} (first n : ℕ) (log : History D) (tokens : Tok
   pub due : served + taken (turn log.events) ≡ admissions log.events
   pub serving : slice_index words serving_at ≡ (2 * (first + served) + shut gate) % 2 ^ 64
   pub kept : IsKept first served (admissions log.events) queue gate
-  pub bells : (k : ℕ) → k < n → slice_index words (bell_at k) ≡ rung (turn log.events) k
+  pub bells : (k : ℕ) → k < n → slice_index words (bell_at k) ≡ bell_value (turn log.events) k
 
 -- the door's sizes: the number of words and slots of its table, of its places, and of their wakers
 pub record Sized (words slots places wakers : ℕ) : Type 0 where

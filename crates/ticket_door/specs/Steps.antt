@@ -20,42 +20,42 @@ module _ {D : Type 0} where
     pub few : x < admissions g.events + places
 
   -- a place takes the next ticket
-  abbrev pub asks : ℕ → ℕ → Rest D → Ready D → StepContract D
-  asks first places rest ready st m r m' =
+  abbrev pub takes_ticket : ℕ → ℕ → Rest D → Ready D → StepContract D
+  takes_ticket first places rest ready st m r m' =
       (k : ℕ) (f : History D) → m ≡ (alone k f, [])
       → (g : History D) × (x : ℕ) × TakesTicket rest ready places k f g x m' × (r ≡ (first + x) % 2 ^ 64)
 
   -- a poll by the place k with the ticket x: if it is served, k is admitted, as admission x, counted from 0
-  abbrev pub LooksAt : ℕ → Rest D → Ready D → ℕ → History D → ℕ → SeatState D → ℕ → SeatState D → Type 0
-  LooksAt first rest ready k f x =
+  abbrev pub PollsTicketAt : ℕ → Rest D → Ready D → ℕ → History D → ℕ → SeatState D → ℕ → SeatState D → Type 0
+  PollsTicketAt first rest ready k f x =
       EntryStep rest ready (λ r. r ≡ (2 * (first + x)) % 2 ^ 64) (λ log. admissions log.events ≡ x) k f (Admit k)
 
-  abbrev pub looks : ℕ → Rest D → Ready D → StepContract D
-  looks first rest ready st m r m' =
-      (k : ℕ) (f : History D) (x : ℕ) → m ≡ (asking k f x, []) → LooksAt first rest ready k f x m r m'
+  abbrev pub polls_ticket : ℕ → Rest D → Ready D → StepContract D
+  polls_ticket first rest ready st m r m' =
+      (k : ℕ) (f : History D) (x : ℕ) → m ≡ (asking k f x, []) → PollsTicketAt first rest ready k f x m r m'
 
   -- a place shuts the gate if SERVING is v
-  abbrev pub ShutsAt : ℕ → ℕ → History D → SeatState D → ℕ → SeatState D → Type 0
-  ShutsAt v k f m r m' = ((r ≡ v → ⊥) → m' ≡ m) × (r ≡ v → m' ≡ (trying k f v, []))
+  abbrev pub ClosesGateAt : ℕ → ℕ → History D → SeatState D → ℕ → SeatState D → Type 0
+  ClosesGateAt v k f m r m' = ((r ≡ v → ⊥) → m' ≡ m) × (r ≡ v → m' ≡ (trying k f v, []))
 
-  abbrev pub shuts : StepContract D
-  shuts st m r m' = (k : ℕ) (f : History D) → m ≡ (alone k f, []) → ShutsAt st.first k f m r m'
+  abbrev pub closes_gate : StepContract D
+  closes_gate st m r m' = (k : ℕ) (f : History D) → m ≡ (alone k f, []) → ClosesGateAt st.first k f m r m'
 
   -- the place k, which shut the gate when SERVING was v, is admitted if NEXT is w
-  abbrev pub TriesAt : ℕ → Rest D → Ready D → ℕ → History D → ℕ → SeatState D → ℕ → SeatState D → Type 0
-  TriesAt w rest ready k f v = EntryStepWith rest ready (Some (Gate v)) (λ r. r ≡ w) (λ log. Unit {0}) k f (Admit k)
+  abbrev pub AdmitsTryAt : ℕ → Rest D → Ready D → ℕ → History D → ℕ → SeatState D → ℕ → SeatState D → Type 0
+  AdmitsTryAt w rest ready k f v = EntryStepWith rest ready (Some (Gate v)) (λ r. r ≡ w) (λ log. Unit {0}) k f (Admit k)
 
-  abbrev pub tries : Rest D → Ready D → StepContract D
-  tries rest ready st m r m' =
-      (k : ℕ) (f : History D) (v : ℕ) → m ≡ (trying k f v, []) → TriesAt st.first rest ready k f v m r m'
+  abbrev pub admits_try : Rest D → Ready D → StepContract D
+  admits_try rest ready st m r m' =
+      (k : ℕ) (f : History D) (v : ℕ) → m ≡ (trying k f v, []) → AdmitsTryAt st.first rest ready k f v m r m'
 
   -- the place that shut the gate opens it again
-  abbrev pub reopens : StepContract D
-  reopens st m r m' = Reopened m m'
+  abbrev pub opens_gate : StepContract D
+  opens_gate st m r m' = Reopened m m'
 
   -- a place takes its bell
-  abbrev pub HearsAt : Rest D → Ready D → ℕ → History D → SeatState D → ℕ → SeatState D → Type 0
-  HearsAt rest ready k f = EntryStep rest ready (λ r. r ≡ 1) (λ log. Unit {0}) k f (due k f)
+  abbrev pub TakesBellAt : Rest D → Ready D → ℕ → History D → SeatState D → ℕ → SeatState D → Type 0
+  TakesBellAt rest ready k f = EntryStep rest ready (λ r. r ≡ 1) (λ log. Unit {0}) k f (due k f)
 
-  abbrev pub hears : Rest D → Ready D → StepContract D
-  hears rest ready st m r m' = (k : ℕ) (f : History D) → m ≡ (alone k f, []) → HearsAt rest ready k f m r m'
+  abbrev pub takes_bell : Rest D → Ready D → StepContract D
+  takes_bell rest ready st m r m' = (k : ℕ) (f : History D) → m ≡ (alone k f, []) → TakesBellAt rest ready k f m r m'

@@ -3,7 +3,7 @@ use mathlib.Core.Option.{none}
 use Rattle.atomic_table.specs.Table.{step}
 use Rattle.ticket_door.specs.Asked.{TicketDoorId}
 use Rattle.ticket_door.specs.Steps.{TakesTicket}
-use Rattle.ticket_door.proofs.Serving.{asks_at}
+use Rattle.ticket_door.proofs.Serving.{takes_ticket_at}
 use Rattle.ticket_door.proofs.door.RawTicketDoor.draw.Goals as goal
 use Rattle.hoare_law.specs.Sizes.{kinds_of}
 
@@ -17,7 +17,7 @@ fetch_add-requires g c =
     let places = ap (λ (d : TicketDoorId). d.door.places) c.self.view_is ∙ c.requires.places in (
       c.requires.table ∙ ap (λ (d : TicketDoorId). d.door.table) (sym c.self.view_is),
       omega (arith, wide),
-      asks_at t.key.first t.key.places D.rest D.ready (kinds_of D.CONDITIONS D.MESA) _ _ c.args.place newcomer.0
+      takes_ticket_at t.key.first t.key.places D.rest D.ready (kinds_of D.CONDITIONS D.MESA) _ _ c.args.place newcomer.0
           (step t.table_id.slots 8 1 0 none) _ _ _ newcomer.1 first places newcomer.2,
     )
 

@@ -6,7 +6,7 @@ use Rattle.door_frame.specs.declared.view.Token.TheVariants.{Ticket}
 use Rattle.door_frame.proofs.Steps.{sole_is}
 use Rattle.ticket_door.specs.Asked.{TicketDoorId}
 use Rattle.ticket_door.proofs.Queue.{Ticket-injective}
-use Rattle.ticket_door.proofs.Serving.{looks_at}
+use Rattle.ticket_door.proofs.Serving.{polls_ticket_at}
 use Rattle.ticket_door.proofs.Turns.{turn_word}
 use Rattle.ticket_door.proofs.door.RawTicketDoor.is_served.Goals as goal
 
@@ -19,7 +19,7 @@ load-requires g c =
     let first = ap (λ (d : TicketDoorId). d.first) c.self.view_is ∙ c.requires.first in (
       c.requires.table ∙ ap (λ (d : TicketDoorId). d.door.table) (sym c.self.view_is),
       omega (arith, wide),
-      looks_at t.key.first t.key.places D.rest D.ready (kinds_of D.CONDITIONS D.MESA) _ _ c.args.place a.1 a.0
+      polls_ticket_at t.key.first t.key.places D.rest D.ready (kinds_of D.CONDITIONS D.MESA) _ _ c.args.place a.1 a.0
           (step t.table_id.slots 0 0 0 none) _ _ a.2 first c.self.invariant.most a.4,
     )
 

@@ -3,7 +3,7 @@ use mathlib.Core.Option.{none}
 use Rattle.atomic_table.specs.Table.{step}
 use Rattle.hoare_law.specs.Sizes.{kinds_of}
 use Rattle.ticket_door.specs.Asked.{TicketDoorId}
-use Rattle.ticket_door.proofs.Trying.{reopens_at}
+use Rattle.ticket_door.proofs.Trying.{opens_gate_at}
 use Rattle.ticket_door.proofs.door.RawTicketDoor.reopen.Goals as goal
 
 pub fetch_sub-requires : goal.fetch_sub-requires
@@ -14,6 +14,6 @@ fetch_sub-requires g c =
     let wide = c.self.invariant.words_are in (
       c.requires.table ∙ ap (λ (d : TicketDoorId). d.door.table) (sym c.self.view_is),
       omega (arith, wide),
-      reopens_at t.key.first t.key.places D.rest D.ready (kinds_of D.CONDITIONS D.MESA) _ _ has.0 has.2 has.1 has.3
+      opens_gate_at t.key.first t.key.places D.rest D.ready (kinds_of D.CONDITIONS D.MESA) _ _ has.0 has.2 has.1 has.3
           (step t.table_id.slots 0 1 0 none) _ has.4,
     )

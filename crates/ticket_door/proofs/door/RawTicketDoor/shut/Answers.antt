@@ -2,7 +2,7 @@ use Rattle.std.proofs.Common.{eqb-true, eq-eqb, true≢false, ℕ, [], refl, sym
 use Rattle.door_frame.specs.Views.{trying}
 use Rattle.hoare_law.specs.Sizes.{kinds_of}
 use Rattle.ticket_door.specs.Asked.{TicketDoorId}
-use Rattle.ticket_door.proofs.Trying.{shuts_at}
+use Rattle.ticket_door.proofs.Trying.{closes_gate_at}
 use Rattle.ticket_door.proofs.door.RawTicketDoor.shut.Goals as goal
 
 pub compare_exchange-requires : goal.compare_exchange-requires
@@ -13,7 +13,7 @@ compare_exchange-requires g c =
     let wide = c.self.invariant.words_are in (
       c.requires.table ∙ ap (λ (d : TicketDoorId). d.door.table) (sym c.self.view_is),
       omega (arith, wide),
-      shuts_at t.key.first t.key.places D.rest D.ready (kinds_of D.CONDITIONS D.MESA) _ _ c.args.place
+      closes_gate_at t.key.first t.key.places D.rest D.ready (kinds_of D.CONDITIONS D.MESA) _ _ c.args.place
           c.served_as-turn.result _ c.args.ticket away.0 _ away.1 c.served_as-turn.ensures refl,
     )
 

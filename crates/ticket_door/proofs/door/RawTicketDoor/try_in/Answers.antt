@@ -1,7 +1,7 @@
 use Rattle.std.proofs.Common.{◌*◌, ◌%◌, ◌^◌, eqb-true, eq-eqb, true≢false, refl, sym, ap, ◌∙◌, arith}
 use Rattle.hoare_law.specs.Sizes.{kinds_of}
 use Rattle.ticket_door.specs.Asked.{TicketDoorId}
-use Rattle.ticket_door.proofs.Trying.{tries_at}
+use Rattle.ticket_door.proofs.Trying.{admits_try_at}
 use Rattle.ticket_door.proofs.door.RawTicketDoor.try_in.Goals as goal
 
 pub compare_exchange-requires : goal.compare_exchange-requires
@@ -12,7 +12,7 @@ compare_exchange-requires g c =
     let wide = c.self.invariant.words_are in (
       c.requires.table ∙ ap (λ (d : TicketDoorId). d.door.table) (sym c.self.view_is),
       omega (arith, wide),
-      tries_at t.key.first t.key.places D.rest D.ready (kinds_of D.CONDITIONS D.MESA) _ _ c.args.place
+      admits_try_at t.key.first t.key.places D.rest D.ready (kinds_of D.CONDITIONS D.MESA) _ _ c.args.place
           ((2 * c.args.ticket) % 2 ^ 64) c.args.ticket _ at.0 _ at.1 c.self.invariant.most at.2 refl refl,
     )
 

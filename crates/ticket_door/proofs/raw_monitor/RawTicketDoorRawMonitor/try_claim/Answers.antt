@@ -1,7 +1,7 @@
 use Rattle.std.proofs.Common.{◌<◌, sym, ap, ◌∙◌, subst, arith}
 use Rattle.door_frame.proofs.Seats.{took}
 use Rattle.ticket_door.specs.Asked.{TicketDoorId}
-use Rattle.ticket_door.proofs.Ringing.{hears_at}
+use Rattle.ticket_door.proofs.Ringing.{takes_bell_at}
 use Rattle.ticket_door.proofs.raw_monitor.RawTicketDoorRawMonitor.try_claim.Goals as goal
 use Rattle.hoare_law.specs.Sizes.{kinds_of}
 
@@ -20,7 +20,7 @@ swap-requires g c =
     let wide = c.self.invariant.words_are in (
       c.requires.table ∙ ap (λ (d : TicketDoorId). d.door.table) (sym c.self.view_is),
       omega (arith, small, wide, c.bell_of-bell.ensures),
-      hears_at t.key.first t.key.places D.rest D.ready (kinds_of D.CONDITIONS D.MESA) _ _ c.args.place away.0 _ _
+      takes_bell_at t.key.first t.key.places D.rest D.ready (kinds_of D.CONDITIONS D.MESA) _ _ c.args.place away.0 _ _
           away.1 c.bell_of-bell.ensures,
     )
 

@@ -9,7 +9,7 @@ ghost use Rattle.std.specs.Prelude.{◌≡◌, ◌≢◌, ◌<◌, ◌≤◌};
 ghost use Rattle.hoare_law.specs.Sizes.{sizes_of};
 ghost use Rattle.door_place.specs.States.{AsksFirst, AsksQueue, Counts, Gets, where_is};
 ghost use Rattle.door_place.specs.Deeds as act;
-ghost use Rattle.door_handle.specs.Desks.{Collected, WasClosed};
+ghost use Rattle.door_handle.specs.KeeperSlots.{Collected, WasClosed};
 ghost use Rattle.door_handle.specs.Held.{Acted, GaveHeld, GaveNothing, GivenBack, IsSame, Made};
 
 use door_handle::door::HeldDoor;

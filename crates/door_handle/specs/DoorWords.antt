@@ -1,13 +1,13 @@
 -- C's words as those of `c_handle`, and back.
 use Rattle.std.specs.Borrow.{Lends, MutBor, Fml}
-use Rattle.door_handle.specs.declared.desk.Desk.{Desk}
-use Rattle.door_handle.specs.contracts.desk.Desk as desks
+use Rattle.door_handle.specs.declared.keeper_slot.KeeperSlot.{KeeperSlot}
+use Rattle.door_handle.specs.contracts.keeper_slot.KeeperSlot as slots
 use Rattle.c_handle.specs.declared.held.Held as generic
 use Rattle.c_handle.specs.contracts.held.Held as held
 use Rattle.door_handle.specs.declared.door.HeldDoor.{HeldDoor}
 use Rattle.door_handle.specs.contracts.door.HeldDoor as words
 
-abbrev pub of_c : HeldDoor → generic.Held Desk
+abbrev pub of_c : HeldDoor → generic.Held KeeperSlot
 of_c s = record {
   live = s.live;
   spare = s.spare;
@@ -16,7 +16,7 @@ of_c s = record {
   few = s.few;
 }
 
-abbrev pub to_c : generic.Held Desk → HeldDoor
+abbrev pub to_c : generic.Held KeeperSlot → HeldDoor
 to_c s = record {
   live = s.live;
   spare = s.spare;
@@ -26,5 +26,5 @@ to_c s = record {
 }
 
 -- C's words end as the last value of the borrow r
-abbrev pub LendsWords : MutBor HeldDoor → MutBor (generic.Held Desk) → Fml
-LendsWords s r = Lends words.the_row (held.the_row desks.the_row) s r to_c
+abbrev pub LendsWords : MutBor HeldDoor → MutBor (generic.Held KeeperSlot) → Fml
+LendsWords s r = Lends words.the_row (held.the_row slots.the_row) s r to_c

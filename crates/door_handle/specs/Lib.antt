@@ -1,4 +1,4 @@
-pub mod Desks
+pub mod KeeperSlots
 pub mod DoorWords
 pub mod PlaceWords
 pub mod Held

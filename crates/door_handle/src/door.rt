@@ -1,10 +1,10 @@
 //! The words in which C keeps a door, with the calls.
 ghost use Rattle.std.specs.Prelude.{◌≡◌, ◌≢◌, ◌<◌, ◌≤◌, ◌⊎◌};
 ghost use Rattle.hoare_law.specs.Sizes.{sizes_of};
-ghost use Rattle.door_handle.specs.Desks.{Collected, WasClosed};
+ghost use Rattle.door_handle.specs.KeeperSlots.{Collected, WasClosed};
 ghost use Rattle.door_handle.specs.Held.{GaveHeld, GaveNothing, Made};
 
-use crate::desk::Desk;
+use crate::keeper_slot::KeeperSlot;
 use crate::handle::DoorHandle;
 use crate::place::HeldPlace;
 use c_handle::held;
@@ -30,11 +30,11 @@ impl HeldDoor {
 
     // Returns the same words as those of a generic handle.
     #[inline(always)]
-    fn held(&mut self) -> &mut held::Held<Desk>
+    fn held(&mut self) -> &mut held::Held<KeeperSlot>
         ensures* writes_back { sem 𝓛 (LendsWords self.entry result) }
         ensures value { result.now ≡ of_c self.old }
     {
-        unsafe { &mut *(self as *mut HeldDoor as *mut held::Held<Desk>) }
+        unsafe { &mut *(self as *mut HeldDoor as *mut held::Held<KeeperSlot>) }
     }
 
     /// Makes a door of 1 to 64 places and 1 to 8 conditions, the last `mesa` of which are Mesa conditions, with the
@@ -64,10 +64,10 @@ impl HeldDoor {
             Ok(keeper) => keeper,
             Err(code) => return code,
         };
-        let desk = Desk {
+        let slot = KeeperSlot {
             keeper: Some(keeper),
         };
-        match self.held().keep(alloc, desk) {
+        match self.held().keep(alloc, slot) {
             Ok(()) => DONE,
             Err(_) => NO_MEMORY,
         }
@@ -90,10 +90,10 @@ impl HeldDoor {
         if place.live != 0 {
             return IS_HELD;
         }
-        let Some(desk) = self.held().get_mut() else {
+        let Some(slot) = self.held().get_mut() else {
             return NOTHING_HELD;
         };
-        let Some(keeper) = &mut desk.keeper else {
+        let Some(keeper) = &mut slot.keeper else {
             return NOTHING_HELD;
         };
         let given = match keeper.give_out() {
@@ -116,10 +116,10 @@ impl HeldDoor {
             × Collected self.old.handle.value.keeper self.new.handle.value.keeper }
         ensures none { self.old.live ≡ 0 → (result ≡ 107) × (self.new ≡ self.old) }
     {
-        let Some(desk) = self.held().get_mut() else {
+        let Some(slot) = self.held().get_mut() else {
             return NOTHING_HELD;
         };
-        desk.collect();
+        slot.collect();
         DONE
     }
 
@@ -132,15 +132,15 @@ impl HeldDoor {
             × (self.new.handle.value.keeper ≡ self.old.handle.value.keeper) × (value.new ≡ value.old) }
         ensures none { self.old.live ≡ 0 → (result ≡ 107) × (self.new ≡ self.old) × (value.new ≡ value.old) }
     {
-        let Some(desk) = self.held().get_mut() else {
+        let Some(slot) = self.held().get_mut() else {
             return NOTHING_HELD;
         };
-        let Some(word) = desk.close() else {
+        let Some(word) = slot.close() else {
             return IN_USE;
         };
         *value = word;
-        if let Some(desk) = self.held().take(alloc) {
-            drop(desk);
+        if let Some(slot) = self.held().take(alloc) {
+            drop(slot);
         }
         DONE
     }

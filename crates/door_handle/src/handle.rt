@@ -3,26 +3,26 @@
 ghost use Rattle.std.specs.Prelude.{◌≡◌, ℕ};
 ghost use Rattle.std_alloc.specs.Box.Ownership.{box_owns};
 ghost use Rattle.c_handle.specs.Owned.{owned};
-ghost use Rattle.door_handle.specs.contracts.desk.Desk as desks;
-ghost use Rattle.door_handle.specs.declared.desk.Desk.{Desk};
+ghost use Rattle.door_handle.specs.contracts.keeper_slot.KeeperSlot as slots;
+ghost use Rattle.door_handle.specs.declared.keeper_slot.KeeperSlot.{KeeperSlot};
 ghost use Rattle.door_place.specs.Places.{PlaceAt};
 ghost use Rattle.door_place.specs.contracts.place.Place as places;
 
 use std::alloc::{Allocator, Global};
 use std::marker::Model;
 
-/// A pointer that owns the desk of a door if the ghost field `live` is 1; `value` is then that desk.
+/// A pointer that owns the slot of a door if the ghost field `live` is 1; `value` is then that slot.
 #[repr(C)]
 pub struct DoorHandle {
     at: *mut u8,
     alloc: Global,
     pub ghost live: { ℕ },
-    pub ghost value: { Desk } by { desks.the_row.coded },
+    pub ghost value: { KeeperSlot } by { slots.the_row.coded },
 }
 
 impl Model for DoorHandle {
     ghost also_owns = { λ h. owned h.live
-        (box_owns (⟦<Global as Allocator>⟧.dealloc_token h.alloc) desks.the_row h.at h.value) };
+        (box_owns (⟦<Global as Allocator>⟧.dealloc_token h.alloc) slots.the_row h.at h.value) };
 }
 
 /// A pointer that owns a place if the ghost field `live` is 1; `value` is then that place.

@@ -1,13 +1,13 @@
 use Rattle.std.proofs.Common.{refl, ap, ◌∙◌, subst}
 use Rattle.c_handle.specs.declared.held.Held as generic
-use Rattle.door_handle.specs.declared.desk.Desk.{Desk}
-use Rattle.door_handle.specs.Desks.{Collected}
+use Rattle.door_handle.specs.declared.keeper_slot.KeeperSlot.{KeeperSlot}
+use Rattle.door_handle.specs.KeeperSlots.{Collected}
 use Rattle.door_handle.proofs.door.HeldDoor.collect.Goals as goal
 
 pub returns-clause-collected : goal.returns-clause-collected
 returns-clause-collected c = λ live.
-    let was = c.in-Some.ensures.value.1 ∙ ap (λ (s : generic.Held Desk). s.handle.value) c.held.ensures.value in (
+    let was = c.in-Some.ensures.value.1 ∙ ap (λ (s : generic.Held KeeperSlot). s.handle.value) c.held.ensures.value in (
       refl,
       c.in-Some.ensures.value.0,
-      subst (λ (d : Desk). Collected d.keeper c.collect.new.self.keeper) was c.collect.ensures,
+      subst (λ (d : KeeperSlot). Collected d.keeper c.collect.new.self.keeper) was c.collect.ensures,
     )

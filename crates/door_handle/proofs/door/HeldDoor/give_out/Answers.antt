@@ -1,14 +1,14 @@
 use Rattle.std.proofs.Common.{◌≡◌, Option, Some, refl, sym, ap, ◌∙◌, subst, arith}
 use Rattle.c_handle.specs.declared.held.Held as generic
 use Rattle.door_place.specs.Places.{KeeperOf, PlaceAt}
-use Rattle.door_handle.specs.declared.desk.Desk.{Desk}
+use Rattle.door_handle.specs.declared.keeper_slot.KeeperSlot.{KeeperSlot}
 use Rattle.door_handle.specs.Held.{GaveHeld, gave, no_room, refused_by}
 use Rattle.door_handle.proofs.Numbers.{numbered}
 use Rattle.door_handle.proofs.door.HeldDoor.give_out.Goals as goal
 
--- the keeper that the call found at the desk
-found : {x y : Desk} {k : Option KeeperOf} → x ≡ y → x.keeper ≡ k → y.keeper ≡ k
-found same is = sym (ap (λ (d : Desk). d.keeper) same) ∙ is
+-- the keeper that the call found at the slot
+found : {x y : KeeperSlot} {k : Option KeeperOf} → x ≡ y → x.keeper ≡ k → y.keeper ≡ k
+found same is = sym (ap (λ (d : KeeperSlot). d.keeper) same) ∙ is
 
 pub returns-in-Ok-keep-clause-gave : goal.returns-in-Ok-keep-clause-gave
 returns-in-Ok-keep-clause-gave c = λ _.
@@ -16,10 +16,10 @@ returns-in-Ok-keep-clause-gave c = λ _.
     let k = c.in-Some-keeper.keeper in
     let l = c.give_out.new.self in
     let n = numbered c.in-Ok.ensures.gave.1 c.number-number.ensures in
-    let desk = c.in-Some.ensures.value.1 ∙ ap (λ (s : generic.Held Desk). s.handle.value) c.held.ensures.value in (
+    let slot = c.in-Some.ensures.value.1 ∙ ap (λ (s : generic.Held KeeperSlot). s.handle.value) c.held.ensures.value in (
       e.0,
       subst (λ (p : PlaceAt). GaveHeld c.args.self.now.handle.value.keeper (Some l) p c.number-number.result) (sym e.1)
-          (gave k l (found desk c.in-Some-keeper.is) refl c.in-Ok.ensures.door c.in-Ok.ensures.gave.0
+          (gave k l (found slot c.in-Some-keeper.is) refl c.in-Ok.ensures.door c.in-Ok.ensures.gave.0
           c.in-Ok.ensures.gave.1 c.in-Ok.ensures.of n.0 n.1),
     )
 
@@ -29,12 +29,12 @@ returns-in-Ok-keep-clause-refused c = λ large.
 
 pub returns-in-Err-clause-nothing : goal.returns-in-Err-clause-nothing
 returns-in-Err-clause-nothing c = λ _ _ _.
-    let desk = c.in-Some.ensures.value.1 ∙ ap (λ (s : generic.Held Desk). s.handle.value) c.held.ensures.value in
-    refused_by c.in-Some-keeper.keeper c.give_out.new.self (found desk c.in-Some-keeper.is) refl c.in-Err.ensures.door
+    let slot = c.in-Some.ensures.value.1 ∙ ap (λ (s : generic.Held KeeperSlot). s.handle.value) c.held.ensures.value in
+    refused_by c.in-Some-keeper.keeper c.give_out.new.self (found slot c.in-Some-keeper.is) refl c.in-Err.ensures.door
     c.in-Err.ensures.refused
 
 pub returns-in-Err-keep-clause-nothing : goal.returns-in-Err-keep-clause-nothing
 returns-in-Err-keep-clause-nothing c = λ _ _ _.
-    let desk = c.in-Some.ensures.value.1 ∙ ap (λ (s : generic.Held Desk). s.handle.value) c.held.ensures.value in
-    no_room c.in-Some-keeper.keeper c.give_out.new.self c.in-Ok.given.state (found desk c.in-Some-keeper.is) refl
+    let slot = c.in-Some.ensures.value.1 ∙ ap (λ (s : generic.Held KeeperSlot). s.handle.value) c.held.ensures.value in
+    no_room c.in-Some-keeper.keeper c.give_out.new.self c.in-Ok.given.state (found slot c.in-Some-keeper.is) refl
     c.in-Ok.ensures.door c.in-Ok.ensures.gave.1 refl

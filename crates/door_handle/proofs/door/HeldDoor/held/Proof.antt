@@ -21,7 +21,7 @@ use denote.Triple.Walked.{Stays, says, stay_dropped, walk_of, ends_at, Goes-spen
 use Rattle.core.proofs.alloc.Shapes.{after}
 use Rattle.std.proofs.raw_atomic.Walks.{proved}
 use Rattle.c_handle.specs.contracts.held.Held as generic
-use Rattle.door_handle.specs.contracts.desk.Desk as desks
+use Rattle.door_handle.specs.contracts.keeper_slot.KeeperSlot as slots
 use Rattle.door_handle.specs.DoorWords.{of_c, to_c}
 use Rattle.door_handle.specs.contracts.door.HeldDoor.{the_row as Words}
 use Rattle.door_handle.specs.contracts.door.HeldDoor.held as f
@@ -30,7 +30,7 @@ use Rattle.door_handle.proofs.door.HeldDoor.held.Statement.{statement}
 use Rattle.door_handle.proofs.door.HeldDoor.held.Code as code
 
 abbrev G : RattleType
-G = generic.the_row desks.the_row
+G = generic.the_row slots.the_row
 
 pub held_spec : {M : Type 1} → statement M
 unfolding part_of

@@ -1,17 +1,17 @@
 //! The keeper of a door, as a value that can be closed in place.
 ghost use Rattle.std.specs.Prelude.{◌≡◌, IfNone, IfSome, None};
-ghost use Rattle.door_handle.specs.Desks.{Collected, WasClosed};
+ghost use Rattle.door_handle.specs.KeeperSlots.{Collected, WasClosed};
 
 use door_place::keeper::Keeper;
 
 /// A keeper, until its door is closed.
 #[derive(Drop)]
-pub struct Desk {
+pub struct KeeperSlot {
     /// The keeper, or `None` after the door was closed.
     pub keeper: Option<Keeper>,
 }
 
-impl Desk {
+impl KeeperSlot {
     /// Takes the places in hand that were given back.
     pub fn collect(&mut self)
         ensures { Collected self.old.keeper self.new.keeper }

@@ -1,7 +1,7 @@
 use Rattle.std.proofs.Common.{Some, sym, ap, ◌∙◌}
 use Rattle.door_place.specs.Places.{KeeperOf}
-use Rattle.door_handle.specs.Desks.{closed}
-use Rattle.door_handle.proofs.desk.Desk.close.Goals as goal
+use Rattle.door_handle.specs.KeeperSlots.{closed}
+use Rattle.door_handle.proofs.keeper_slot.KeeperSlot.close.Goals as goal
 
 pub returns-in-Ok-clause-closed : goal.returns-in-Ok-clause-closed
 returns-in-Ok-clause-closed c =

@@ -1,4 +1,4 @@
--- What is left of a door at a desk.
+-- What is left of a door at a slot.
 use Rattle.std.specs.Prelude.{◌≡◌, ◌<◌, ℕ, List, Option, Some, None}
 use Rattle.door_frame.specs.Places.{Closes, HasPlace, PlaceOut}
 use Rattle.door_place.specs.Places.{HasMore, KeeperOf, keeper_of}

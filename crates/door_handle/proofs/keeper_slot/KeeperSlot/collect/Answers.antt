@@ -1,7 +1,7 @@
 use Rattle.std.proofs.Common.{◌≡◌, Some, ap}
 use Rattle.door_place.specs.Places.{KeeperOf, keeper_of}
-use Rattle.door_handle.specs.Desks.{collected}
-use Rattle.door_handle.proofs.desk.Desk.collect.Goals as goal
+use Rattle.door_handle.specs.KeeperSlots.{collected}
+use Rattle.door_handle.proofs.keeper_slot.KeeperSlot.collect.Goals as goal
 
 pub returns-in-Some : goal.returns-in-Some
 returns-in-Some c =

@@ -27,8 +27,8 @@ use std::sync::atomic::AtomicBool;
 /// alone may take it then. One slot keeps the data, and the queues of waiters and signallers. If the type of the data
 /// has `Drop`, so has the door, and the data are dropped with it. `close` returns the data instead.
 ///
-/// In the example the data are a `u64`, and there is one condition. `rest` and `ready` of an `Unconstrained` always hold, so
-/// the caller has nothing to prove.
+/// In the example the data are a `u64`, and there is one condition. `rest` and `ready` of an `Unconstrained` always
+/// hold, so the caller has nothing to prove.
 ///
 /// ```rust
 /// let data = Unconstrained::<u64, 1> { value: 41 };

@@ -11,7 +11,8 @@ use Rattle.disk_jobs.specs.JobLists.{JobList}
 use Rattle.disk_jobs.specs.JobTexts.{Ending, one_line, then_on, outcome_of_lines, outcome_from}
 
 -- a line that other lines follow
-outcome_of_lines-line : (e : Ending) (s : Option JobList) (i : ℕ) (l : List ℕ) (parts : List (List ℕ)) → (parts ≡ [] → ⊥)
+outcome_of_lines-line : (e : Ending) (s : Option JobList) (i : ℕ) (l : List ℕ) (parts : List (List ℕ))
+    → (parts ≡ [] → ⊥)
     → length l ≤ 256
     → outcome_of_lines e s i (l ∷ parts) ≡ then_on (one_line s i l) (λ j. outcome_of_lines e (Some j) (i + 1) parts)
 outcome_of_lines-line e s i l [] n h = absurd (n refl)
@@ -49,4 +50,5 @@ outcome_of_lines-last e s i l h = rw (le-ltb 256 (length l) h) refl
 pub outcome_from-end : (e : Ending) (s : Option JobList) (i : ℕ) (l : List ℕ) → NoNewline l → length l ≤ 256
     → outcome_from e s i l ≡ e s i l
 unfolding outcome_from
-outcome_from-end e s i l n h = ap (outcome_of_lines e s i) (slice_split_none is_newline l n) ∙ outcome_of_lines-last e s i l h
+outcome_from-end e s i l n h = ap (outcome_of_lines e s i) (slice_split_none is_newline l n) ∙ outcome_of_lines-last e
+    s i l h

@@ -365,7 +365,8 @@ module _ {D : Type 0} (Initial : Bool → List ℕ → Type 0) (WordsFit : Histo
           → (x : Guarded D) × (get_elem? (set s.homes 0 none) 0 ≡ some (some (Some x))) × Lies h x
       not_given_up l h held up = absurd (subst IsGivenUp held up)
 
-  lies_of : (f : History D) (e : Event D) (x : Guarded D) → data_of e ≡ x.state → IsOf x.book (dataless (with_event f e))
+  lies_of : (f : History D) (e : Event D) (x : Guarded D) → data_of e ≡ x.state → IsOf x.book
+      (dataless (with_event f e))
       → Lies (with_event f e) x
   lies_of f e x same book = record { latest = sym (latest_data-push f e ∙ same); book = book }
 

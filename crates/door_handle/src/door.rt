@@ -4,8 +4,8 @@ ghost use Rattle.hoare_law.specs.Sizes.{sizes_of};
 ghost use Rattle.door_handle.specs.KeeperSlots.{Collected, WasClosed};
 ghost use Rattle.door_handle.specs.Held.{GaveHeld, GaveNothing, Made};
 
-use crate::keeper_slot::KeeperSlot;
 use crate::handle::DoorHandle;
+use crate::keeper_slot::KeeperSlot;
 use crate::place::HeldPlace;
 use c_handle::held;
 use door_place::codes::{DONE, IN_USE, IS_HELD, NO_MEMORY, NOTHING_HELD};

@@ -52,7 +52,8 @@ pub exit_begins : {k c : ℕ} {s : Carried} {f h : History Carried} {b : Bool} �
 exit_begins (passed_on w chosen is) = begun _ is
 exit_begins (just_left none is) = begun _ is
 
-pub notify_begins : {k c : ℕ} {s : Carried} {f h : History Carried} {b : Bool} → growth.Notifies k c s f h b → Begins f h
+pub notify_begins : {k c : ℕ} {s : Carried} {f h : History Carried} {b : Bool} → growth.Notifies k c s f h b → Begins f
+    h
 notify_begins (growth.called_one w chosen is) = begun _ is
 notify_begins {f = f} (growth.nobody_called none is) = subst (Begins f) (sym is) (Begins-refl f)
 

@@ -38,9 +38,9 @@ impl<'a, R: Threads + Wait + Clock + Print + Eprint + Copy + Send + 'static> Tel
     }
 
     /// If all programs are asked for, tries the orders of this program on both doors, and prints the outcome. If this
-    /// program alone is asked for, tries it on the door of the limits, and prints the outcome to standard error, and to
-    /// standard output the script of its bad order, or of the last run that met a limit. Else, or after a failure, does
-    /// nothing.
+    /// program alone is asked for, tries it on the door of the limits, and prints the outcome to standard error. To
+    /// standard output it then prints the script of the bad order, or of the last run that met a limit. Else, or after a
+    /// failure, does nothing.
     pub fn tell<
         D: MonitorData + Send + Drop + 'static,
         P: Program<D, Explored<D>> + Clone + 'static,

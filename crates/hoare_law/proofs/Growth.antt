@@ -47,7 +47,8 @@ Grows-one e f h is = rw is (record {
 -- each of the place, the data and the front that the clause names otherwise.
 module _ {S : Type 0} {k k1 : ℕ} {s s1 : S} {g g1 h : History S} where
   -- the place entered, was held up, and waited
-  pub GetsInside-waited : {held_up : History S → S → Type 0} {condition priority : S → ℕ} {c p : ℕ} {d : S} {f : History S}
+  pub GetsInside-waited : {held_up : History S → S → Type 0} {condition priority : S → ℕ} {c p : ℕ} {d : S}
+      {f : History S}
       → AddsLast f (Admit k s) g → held_up g s
       → AddsTwo g1 (Wait k1 c p s1) (Resume k1 c d) h → k1 ≡ k → s1 ≡ s → g1 ≡ g → c ≡ condition s → p ≡ priority s
       → GetsInside k held_up condition priority f h d

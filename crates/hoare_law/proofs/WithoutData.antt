@@ -194,7 +194,8 @@ module _ {S : Type 0} where
       ∙ filter-map without_data (λ x. place_of x == w) (waiting c f)
       ∙ ap (map without_data)
       (filter_agree _ (λ x. place_of x == w) (λ x. ap (λ j. j == w) (place_of-dataless x)) (waiting c f))
-  called_by-dataless f (Broadcast k c s) = ap (in_order priority_of) (waiting-dataless c f) ∙ in_order-dataless (waiting c f)
+  called_by-dataless f (Broadcast k c s) = ap (in_order priority_of) (waiting-dataless c f) ∙ in_order-dataless
+      (waiting c f)
   called_by-dataless f (Admit k s) = refl
   called_by-dataless f (Wait k c p s) = refl
   called_by-dataless f (Signal k c w s) = refl
@@ -261,7 +262,8 @@ module _ {S : Type 0} where
   priorities-dataless h = λ i c. priorities_at h c i
 
   -- a history with one more event
-  pub dataless-push : (h : History S) (e : Event S) → dataless (with_event h e) ≡ with_event (dataless h) (without_data e)
+  pub dataless-push : (h : History S) (e : Event S) → dataless (with_event h e) ≡ with_event (dataless h)
+      (without_data e)
   unfolding with_event
   dataless-push h e =
       ap (λ l. record { sizes = h.sizes; opening = tt; events = l }) (map-append without_data h.events (e ∷ []))

@@ -57,7 +57,8 @@ pub data Broadcasts {S : Type 0} (k c : ℕ) (s : S) (f h : History S) : Type 0 
 -- k entered, and continues with the data `found` and the front g: at once, if what it first found doesn't hold it up,
 -- or else after one wait. Its front at that moment and the data decide if it is held up. The data also say the
 -- condition and the priority of the wait
-pub data GetsInside {S : Type 0} (k : ℕ) (held_up : History S → S → Type 0) (condition priority : S → ℕ) (f g : History S)
+pub data GetsInside {S : Type 0} (k : ℕ) (held_up : History S → S → Type 0) (condition priority : S → ℕ)
+    (f g : History S)
     (found : S) : Type 0 where
   at_once : AddsLast f (Admit k found) g → (held_up g found → ⊥) → GetsInside k held_up condition priority f g found
   waited : (e : History S) (a : S) → AddsLast f (Admit k a) e → held_up e a

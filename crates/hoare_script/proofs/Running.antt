@@ -23,11 +23,13 @@ use Rattle.wait_book.specs.Contents.{Contents}
 use Rattle.hoare_script.specs.declared.fault.ScriptFault.{ScriptFault}
 use Rattle.hoare_script.specs.declared.fault.ScriptFault.TheVariants as faults
 use Rattle.hoare_script.specs.declared.runs.TheConstants.{MOST_BYTES}
-use Rattle.hoare_script.specs.Scripts.{State, Start, Running, Output, Ending, Outcome, output, output_from, prepend, stop}
+use Rattle.hoare_script.specs.Scripts.{State, Start, Running, Output, Ending, Outcome, output, output_from, prepend}
+use Rattle.hoare_script.specs.Scripts.{stop}
 use Rattle.hoare_script.specs.Scripts.{done, then_on, one_line, at_end, at_cut}
 use Rattle.hoare_script.specs.Runs.{IsAt, Follows, IsGoodHeader, OnFault, Tells, Verdict, Whole}
 use Rattle.hoare_script.proofs.Answering.{one_line-number}
-use Rattle.hoare_script.proofs.Scripts.{output_from-line, output_from-long_line, output_from-past_limit, output_from-end}
+use Rattle.hoare_script.proofs.Scripts.{output_from-line, output_from-long_line, output_from-past_limit}
+use Rattle.hoare_script.proofs.Scripts.{output_from-end}
 
 -- the state of a run: of the input t0 it has t left, and what it wrote and will write is what `told` has of the input
 pub record Going (number room : ℕ) (opened : Option Contents) (old now : Option (List ℕ)) (t0 t : List ℕ) : Type 0 where
@@ -111,7 +113,8 @@ module _ (number room : ℕ) (opened : Option Contents) (old now : Option (List 
       → Tells t0 x old now (Err (faults.LineTooLong number))
   Tells-long_line l x b n d h r e = (
     Whole-stop now (faults.LineTooLong number) (Appends-nil now)
-        (ap (output_from at_end g.state number room) e ∙ output_from-long_line at_end g.state number room l b x n d h r),
+        (ap (output_from at_end g.state number room) e ∙ output_from-long_line at_end g.state number room l b x n d h
+        r),
     after_lines-long_line g.text l x b h e,
   )
 
@@ -124,7 +127,8 @@ module _ (number room : ℕ) (opened : Option Contents) (old now : Option (List 
       let count : length consumed ≡ MOST_BYTES + 1 =
       omega (arith, length-append g.read (l ++ b ∷ []), length-append l (b ∷ []), g.counted, r) in (
         Whole-stop now faults.TooMuch (Appends-nil now)
-            (ap (output_from at_end g.state number room) e ∙ output_from-past_limit at_end g.state number room l b x n h r),
+            (ap (output_from at_end g.state number room) e ∙ output_from-past_limit at_end g.state number room l b x n
+            h r),
         sym (ap (drop (MOST_BYTES + 1)) bytes ∙ drop-read (MOST_BYTES + 1) consumed x count),
       )
 
@@ -157,7 +161,8 @@ module _ (number room : ℕ) (opened : Option Contents) (old now : Option (List 
       let n : ℕ = q.2.0 in
       let next : number ≡ suc (number - 1) = omega (arith, g.text.some) in
       let all : (output at_end t0).written ≡ w ++ (p ++ r) =
-      ap (λ (v : Output). v.written) (output-rest at_end ∙ ap (prepend w) (e ∙ ap (λ (v : Outcome). then_on v go) q.1)) in
+      ap (λ (v : Output). v.written) (output-rest at_end ∙ ap (prepend w)
+      (e ∙ ap (λ (v : Outcome). then_on v go) q.1)) in
       let some : take (length w + n) (output at_end t0).written ≡ w ++ take n p =
       ap (take (length w + n)) all ∙ sym (append-take_prefix w p r n (omega (arith, q.2.1))) in (
         (
@@ -224,7 +229,8 @@ module _ (number room : ℕ) (opened : Option Contents) (old now : Option (List 
       )
 
   -- nothing follows the last whole line
-  output_from-nothing : t ≡ [] → output_from at_end g.state number room t ≡ cond (eqb number 1) (stop faults.NoHeader) done
+  output_from-nothing : t ≡ [] → output_from at_end g.state number room t ≡ cond (eqb number 1) (stop faults.NoHeader)
+      done
   output_from-nothing e =
       ap (output_from at_end g.state number room) e
       ∙ output_from-end at_end g.state number room [] (λ k d h. absurd (omega arith)) (omega arith) (omega arith)
@@ -318,7 +324,7 @@ module _ {k0 k old now : Option (List ℕ)} {number room : ℕ} {opened : Option
       (Tells-nothing number room opened old now t0 t g x (eqb number 1)
       (output_from-nothing number room opened old now t0 t g (b.0 ∙ z)) b.1)) r
 
-  -- what `told_from` has of the last line
+  -- what `output_from` has of the last line
   output_from-last : (s : State) (t : List ℕ) → t ≡ l → (l ≡ [] → ⊥)
       → output_from at_end s number room t ≡ then_on (one_line s number l) (λ _. done)
   output_from-last s t e z =

@@ -1,4 +1,4 @@
--- What `told_from` has of a script, by how its next line ends.
+-- What `output_from` has of a script, by how its next line ends.
 use Rattle.std.proofs.Common.{◌≡◌, ◌≢◌, ℕ, suc, ◌+◌, ◌-◌, ◌<◌, ◌≤◌, Bool, true, false, cond, ltb, List, [], ◌∷◌, ◌++◌}
 use Rattle.std.proofs.Common.{length, take}
 use Rattle.std.proofs.Common.{refl, ap, sym, ◌∙◌, length-append, arith}
@@ -18,14 +18,16 @@ ltb-same : (a b c d : ℕ) → (a < b → c < d) → (c < d → a < b) → ltb a
 ltb-same a b c d f g = grind (arith, nat_tests)
 
 -- a line that others follow
-output_of_lines-line : (e : Ending) (over : Bool) (s : State) (i : ℕ) (l : List ℕ) (parts : List (List ℕ)) → (parts ≡ [] → ⊥)
+output_of_lines-line : (e : Ending) (over : Bool) (s : State) (i : ℕ) (l : List ℕ) (parts : List (List ℕ))
+    → (parts ≡ [] → ⊥)
     → length l ≤ 256
     → output_of_lines e over s i (l ∷ parts) ≡ then_on (one_line s i l) (λ t. output_of_lines e over t (i + 1) parts)
 output_of_lines-line e over s i l [] n h = absurd (n refl)
 output_of_lines-line e over s i l (p ∷ ps) n h = rw (le-ltb 256 (length l) h) refl
 
 -- a line of over 256 bytes
-output_of_lines-long : (e : Ending) (over : Bool) (s : State) (i : ℕ) (l : List ℕ) (parts : List (List ℕ)) → 256 < length l
+output_of_lines-long : (e : Ending) (over : Bool) (s : State) (i : ℕ) (l : List ℕ) (parts : List (List ℕ)) → 256 <
+    length l
     → output_of_lines e over s i (l ∷ parts) ≡ stop (faults.LineTooLong i)
 output_of_lines-long e over s i l [] h = rw (lt-ltb 256 (length l) h) refl
 output_of_lines-long e over s i l (p ∷ ps) h = rw (lt-ltb 256 (length l) h) refl
@@ -53,7 +55,8 @@ output_from-line e s i room l x n h r =
     (slice_split-some is_newline (take m x)) h)
 
 -- a line that is too long
-pub output_from-long_line : (e : Ending) (s : State) (i room : ℕ) (l : List ℕ) (b : ℕ) (x : List ℕ) → NoNewline l → b ≢ 10
+pub output_from-long_line : (e : Ending) (s : State) (i room : ℕ) (l : List ℕ) (b : ℕ) (x : List ℕ) → NoNewline l → b ≢
+    10
     → length l ≡ 256 → 256 < room
     → output_from e s i room (l ++ b ∷ x) ≡ stop (faults.LineTooLong i)
 unfolding output_from
@@ -81,7 +84,8 @@ output_from-past_limit e s i room l b x n h r =
     rw (parts, over) (output_of_lines-last e true s i l h)
 
 -- the end of the input, or of what could be read
-pub output_from-end : (e : Ending) (s : State) (i room : ℕ) (l : List ℕ) → NoNewline l → length l ≤ 256 → length l ≤ room
+pub output_from-end : (e : Ending) (s : State) (i room : ℕ) (l : List ℕ) → NoNewline l → length l ≤ 256 → length l ≤
+    room
     → output_from e s i room l ≡ e s i l
 unfolding output_from
 output_from-end e s i room l n h r =

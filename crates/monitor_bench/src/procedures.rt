@@ -1,6 +1,6 @@
 //! What one thread does with the procedures of the schedulers, over any monitor: it calls a pair of them `turns` times.
-//! A refusal ends it. Each function that returns a time returns an error if it is given no place, if the clock fails, or
-//! if a procedure other than the end of a read is refused.
+//! A refusal ends it. Each function that returns a time returns an error if it is given no place, if the clock fails,
+//! or if a procedure other than the end of a read is refused.
 ghost use Rattle.std.specs.Prelude.{All, IfOk};
 
 use crate::opening::last_place;

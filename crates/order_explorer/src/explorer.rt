@@ -150,20 +150,20 @@ fn start_all<
 }
 
 // Returns true if the data that a whole run left and the answers of its threads are right, and puts in the data of the
-// next run. It enters by `desk`, a place that no thread has. Returns `None` if there are no such data, or if `rest`
+// next run. It enters by `spare`, a place that no thread has. Returns `None` if there are no such data, or if `rest`
 // doesn't hold of them.
 fn look<R: Wait, D: MonitorData + Send + Drop, P: Program<D, Explored<D>>>(
     rt: &R,
     alloc: Global,
     program: &P,
     explored: &Explored<D>,
-    desk: Outside<D>,
+    spare: Outside<D>,
 ) -> (Outside<D>, Option<bool>)
-    requires { IsOut D.rest D.ready (kinds_of D.CONDITIONS D.MESA) (id_of explored.now.door) desk }
+    requires { IsOut D.rest D.ready (kinds_of D.CONDITIONS D.MESA) (id_of explored.now.door) spare }
     ensures { IsOut D.rest D.ready (kinds_of D.CONDITIONS D.MESA) (id_of explored.now.door) result.0 }
 {
     let door = &explored.door;
-    let mut inside = door.enter(rt, desk);
+    let mut inside = door.enter(rt, spare);
     let right = {
         let state = explored.controller.state.lock(rt);
         program.is_right(door.state(&inside), state.answers())
@@ -195,13 +195,13 @@ fn run_all<R: Wait, D: MonitorData + Send + Drop, P: Program<D, Explored<D>>>(
     alloc: Global,
     program: &P,
     explored: &Explored<D>,
-    desk: Outside<D>,
+    spare: Outside<D>,
     runs: u64,
 ) -> Result<Found, AllocError>
-    requires { IsOut D.rest D.ready (kinds_of D.CONDITIONS D.MESA) (id_of explored.now.door) desk }
+    requires { IsOut D.rest D.ready (kinds_of D.CONDITIONS D.MESA) (id_of explored.now.door) spare }
 {
     let controller = &explored.controller;
-    let mut desk = desk;
+    let mut spare = spare;
     for run in 0..runs {
         controller.start(rt);
         let ending = controller.await_ending(rt);
@@ -209,8 +209,8 @@ fn run_all<R: Wait, D: MonitorData + Send + Drop, P: Program<D, Explored<D>>>(
             let schedule = controller.take_schedule(rt, alloc, ending);
             return Ok(found_cut(ending, run, schedule));
         }
-        let (again, right) = look(rt, alloc, program, explored, desk);
-        desk = again;
+        let (again, right) = look(rt, alloc, program, explored, spare);
+        spare = again;
         match right {
             Some(true) => {}
             Some(false) => return Ok(Found::Wrong(controller.take_schedule(rt, alloc, ending))),
@@ -246,19 +246,19 @@ fn controller_of<D: MonitorData>(
 }
 
 // Returns the place for `look`, and those for the threads.
-fn with_desk<D: MonitorData + Send + Drop>(
+fn with_spare<D: MonitorData + Send + Drop>(
     explored: &Explored<D>,
     outs: Vec<Outside<D>>,
 ) -> Option<(Outside<D>, Vec<Outside<D>>)>
     requires { All (IsOut D.rest D.ready (kinds_of D.CONDITIONS D.MESA) (id_of explored.now.door)) outs.items }
-    ensures desk { IfSome result
+    ensures spare { IfSome result
         (λ r. IsOut D.rest D.ready (kinds_of D.CONDITIONS D.MESA) (id_of explored.now.door) r.0) }
     ensures outs { IfSome result
         (λ r. All (IsOut D.rest D.ready (kinds_of D.CONDITIONS D.MESA) (id_of explored.now.door)) r.1.items) }
 {
     let mut outs = outs;
-    let desk = outs.pop()?;
-    Some((desk, outs))
+    let spare = outs.pop()?;
+    Some((spare, outs))
 }
 
 // Makes the runs of a program by threads that share it.
@@ -273,14 +273,14 @@ fn explore_shared<
     places: (Outside<D>, Vec<Outside<D>>),
     runs: u64,
 ) -> Result<Found, AllocError>
-    requires desk { IsOut D.rest D.ready (kinds_of D.CONDITIONS D.MESA)
+    requires spare { IsOut D.rest D.ready (kinds_of D.CONDITIONS D.MESA)
         (id_of (arc_value shared).explored.door) places.0 }
     requires outs { All (IsOut D.rest D.ready (kinds_of D.CONDITIONS D.MESA) (id_of (arc_value shared).explored.door))
         places.1.items }
 {
-    let (desk, outs) = places;
+    let (spare, outs) = places;
     start_all(rt, &shared, outs)?;
-    let found = run_all(&rt, alloc, &shared.program, &shared.explored, desk, runs)?;
+    let found = run_all(&rt, alloc, &shared.program, &shared.explored, spare, runs)?;
     shared.explored.controller.stop(&rt);
     Ok(found)
 }
@@ -302,7 +302,7 @@ fn explore_with<
         return Err(AllocError);
     };
     let (explored, outs) = Explored::make(alloc, limits.door, controller, state, count)?;
-    let Some(places) = with_desk(&explored, outs) else {
+    let Some(places) = with_spare(&explored, outs) else {
         return Err(AllocError);
     };
     let Ok(shared) = Arc::new(alloc, Shared { program, explored }) else {

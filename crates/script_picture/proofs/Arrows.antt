@@ -22,7 +22,8 @@ use Rattle.script_picture.specs.declared.chart.Lane.{Lane}
 use Rattle.script_picture.specs.declared.chart.Lane.TheVariants as lanes
 use Rattle.script_picture.specs.declared.chart.Row.{Row}
 use Rattle.script_picture.specs.Lanes.{actor, between, hand_over_answered, hand_over_commanded, hand_over}
-use Rattle.script_picture.specs.Shown.{Does, IsClaimed, Shows, IsAnsweredThroughout, HandsOver, KeepsTurn, after_rows, opening}
+use Rattle.script_picture.specs.Shown.{Does, IsClaimed, Shows, IsAnsweredThroughout, HandsOver, KeepsTurn, after_rows}
+use Rattle.script_picture.specs.Shown.{opening}
 use Rattle.script_picture.proofs.Does.{Log}
 use Rattle.script_picture.proofs.Shown.{turn-with, held_test, held_is, claimed-step, places-after, Answered-at}
 use Rattle.script_picture.proofs.Shown.{Answered-before, after_rows-next}

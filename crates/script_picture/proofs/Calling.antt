@@ -22,7 +22,8 @@ use Rattle.script_picture.specs.declared.chart.Lane.TheVariants as lanes
 use Rattle.script_picture.specs.declared.chart.Row.{Row}
 use Rattle.script_picture.specs.Lanes.{actor, caller, caller_commanded, is_call, lane_answered, lane_beside}
 use Rattle.script_picture.specs.Lanes.{lane_commanded, lane_after}
-use Rattle.script_picture.specs.Shown.{Does, HasBook, IsAnswered, IsAnsweredThroughout, Calls, LeavesAlone, after_rows, opening}
+use Rattle.script_picture.specs.Shown.{Does, HasBook, IsAnswered, IsAnsweredThroughout, Calls, LeavesAlone, after_rows}
+use Rattle.script_picture.specs.Shown.{opening}
 use Rattle.script_picture.proofs.Does.{Log, lane_of, lane_beside-last, is_among, is_among-less, number_none}
 use Rattle.script_picture.proofs.Does.{number_some, uncalled-push, Does-last, Does-by_last}
 use Rattle.script_picture.proofs.Shown.{Follows, Follows-next, held_test, held_is, Answered-at, Answered-before}
@@ -80,7 +81,8 @@ call_numbered n l after off same is =
 
 -- an entering place notifies no place
 enter_calls : (h : Log) (j k : ℕ)
-    → is_call (lane_of h k) (lane_beside (notified_position (with_event h (Admit j tt)).events k) (lane_of h k)) ≡ true → ⊥
+    → is_call (lane_of h k) (lane_beside (notified_position (with_event h (Admit j tt)).events k) (lane_of h k)) ≡ true
+    → ⊥
 enter_calls h j k is = by (is_among k (called h.events)) refl
   where
     by : (t : Bool) → is_among k (called h.events) ≡ t → ⊥

@@ -36,7 +36,8 @@ few_places n is = by (leb 1 n.places) (leb n.places 64) refl is
 pub answered_row : (h : Log) (rows : List Row) (old new : Contents) (command : Command) (answer : Answer)
     (numbers : List ℕ) → h.sizes.places ≤ 64
     → ((g : Log) → IsOf old g → (answer ≡ answer_to g command) × IsOf new (history_after g command))
-    → ((g : Log) → IsOf new g → g.sizes.places ≤ 64 → (k : ℕ) → slice_index_or numbers k 0 ≡ notified_position g.events k)
+    → ((g : Log) → IsOf new g → g.sizes.places ≤ 64 → (k : ℕ) → slice_index_or numbers k 0 ≡ notified_position g.events
+    k)
     → Answered h rows → IsOf old (after_rows h rows)
     → Answered h (rows ++ record { command = command; answer = answer; numbers = numbers } ∷ [])
     × IsOf new (after_rows h (rows ++ record { command = command; answer = answer; numbers = numbers } ∷ []))

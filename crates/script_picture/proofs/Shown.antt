@@ -73,7 +73,8 @@ claimed-settled h = subst IsClaimed (sym (turn-claim h (turn h.events) refl)) (i
 -- what place k does after the step that h ends with is given by the step, its answer and the number of k among the
 -- notified
 abbrev IsLane : Log → Step → ℕ → Lane → Type 0
-IsLane h s k before = lane_of h k ≡ lane_answered s (notified_position h.events k) k before (turn_answer (turn h.events))
+IsLane h s k before = lane_of h k ≡ lane_answered s (notified_position h.events k) k before
+    (turn_answer (turn h.events))
 
 -- if the lanes are right after the event of a step, they are right after the owed place resumed
 left_claim : (n : ℕ) (h : Log) (s : Step) (k : ℕ) (before : Lane) (t : Turn) → IsGivenUp t
@@ -124,9 +125,11 @@ stays_so h s k held =
     ∙ ap (λ (t : Turn). lane_answered s (notified_position h.events k) k (lane_of h k) (turn_answer t)) (sym held)
   where
     by : (t : Bool) → (actor s == k) ≡ t
-        → lane_of h k ≡ cond t lanes.Inside (cond t (left_as s) (lane_beside (notified_position h.events k) (lane_of h k)))
+        → lane_of h k ≡ cond t lanes.Inside (cond t (left_as s)
+        (lane_beside (notified_position h.events k) (lane_of h k)))
     by true is = sym (inside_last h k (held ∙ ap Held (eqb-true (actor s) k is)))
-    by false is = lane_beside-last (notified_position h.events k) (notified_position h.events k) (newest (own k h.events))
+    by false is = lane_beside-last (notified_position h.events k) (notified_position h.events k)
+        (newest (own k h.events))
 
 -- the acting place has the turn
 
@@ -288,7 +291,8 @@ pub answered_lane : (h : Log) (row : Row) (k : ℕ) → IsAnswered h row
     → lane_after row k (lane_of h k) ≡ lane_of (history_after h row.command) k
 answered_lane h row k answered =
     ap (λ (n : ℕ). lane_commanded row.command n k (lane_of h k) row.answer) (answered.1 k)
-    ∙ ap (lane_commanded row.command (notified_position (history_after h row.command).events k) k (lane_of h k)) answered.0
+    ∙ ap (lane_commanded row.command (notified_position (history_after h row.command).events k) k (lane_of h k))
+    answered.0
     ∙ sym (lane_of-after h row.command k)
 
 -- lanes that are moved past a row show the history after it

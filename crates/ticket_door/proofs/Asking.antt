@@ -66,7 +66,8 @@ module _ {D : Type 0} where
       pub place : a.place ≡ o.place
       pub front : IsInHistory a.front o
 
-    pub takes_ticket_as : (d : TicketDoorId) (o : PlaceOut D) (a : PlaceAsked D) {k : ℕ} {g : History D} {x : ℕ} {m : SeatState
+    pub takes_ticket_as : (d : TicketDoorId) (o : PlaceOut D) (a : PlaceAsked D) {k : ℕ} {g : History D} {x : ℕ}
+        {m : SeatState
         D}
         → IsOut rest ready kinds d.door o → TakesTicket rest ready d.door.places k o.front g x m → k ≡ o.place
         → a.place_id ≡ o.place_id → a.place ≡ o.place → a.front ≡ g → a.number ≡ x → a.ticket ≡ (d.first + x) % 2 ^ 64

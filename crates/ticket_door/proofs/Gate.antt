@@ -71,7 +71,8 @@ takes_ticket_else open_gate a q k j ne = ticket_kept a q k j ne
 takes_ticket_else (shut_by i v) a q k j ne =
     ap (λ (o : Option Token). cond (eqb j i) (Some (token.Gate v)) o) (ticket_kept a q k j ne)
 
-pub takes_ticket_tokens : (g : Gate) (a : ℕ) (q : List ℕ) (k : ℕ) (tokens : Tokens) → ((j : ℕ) → tokens j ≡ token_in g a q j)
+pub takes_ticket_tokens : (g : Gate) (a : ℕ) (q : List ℕ) (k : ℕ) (tokens : Tokens)
+    → ((j : ℕ) → tokens j ≡ token_in g a q j)
     → tokens k ≡ None → (j : ℕ)
     → given_to tokens k (Some (token.Ticket (a + length q))) j ≡ token_in g a (q ++ k ∷ []) j
 takes_ticket_tokens g a q k tokens are none j =

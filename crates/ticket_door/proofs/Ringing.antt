@@ -32,7 +32,8 @@ module _ {D : Type 0} (first n : ℕ) where
   -- a bell has another number, and it is somebody's turn before and after
   rewritten : (f h : History D) (tokens : Tokens) (ws : List ℕ) (k y : ℕ) → k < n → taken (turn f.events) ≡ 1
       → taken (turn h.events) ≡ 1 → admissions h.events ≡ admissions f.events
-      → bell_value (turn h.events) k ≡ y → ((j : ℕ) → j ≢ k → bell_value (turn h.events) j ≡ bell_value (turn f.events) j)
+      → bell_value (turn h.events) k ≡ y → ((j : ℕ) → j ≢ k → bell_value (turn h.events) j ≡ bell_value (turn f.events)
+      j)
       → (t : WordsFit first n f tokens ws) → ((j : ℕ) → 0 < times j t.queue → outside j h.events ≡ true)
       → WordsFit first n h tokens (set ws (bell_at k) y)
   rewritten f h tokens ws k y small before after same here else_ t out = let wide = t.words_are in record {
@@ -125,7 +126,8 @@ module _ {D : Type 0} (first n : ℕ) where
         → bell ≡ bell_at k
         → Allows K slots id m bell (λ _. 0) (takes_bell rest ready (step slots bell 0 0 none) m)
     takes_bell_at slots id k f bell m is here =
-        subst (λ (q : SeatState D × ℕ). Allows K slots id q.0 q.1 (λ _. 0) (takes_bell rest ready (step slots q.1 0 0 none)
+        subst (λ (q : SeatState D × ℕ). Allows K slots id q.0 q.1 (λ _. 0)
+        (takes_bell rest ready (step slots q.1 0 0 none)
         q.0))
         (λ i. (sym is i, sym here i))
         (takes_bell_ok slots id k f (step slots (bell_at k) 0 0 none))

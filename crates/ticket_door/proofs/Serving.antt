@@ -34,7 +34,8 @@ use Rattle.hoare_law.specs.Admissions.{admissions}
 use Rattle.ticket_door.specs.Queue.{ticket_in}
 use Rattle.door_frame.specs.declared.view.Token.{Token}
 use Rattle.door_frame.specs.declared.view.Token.TheVariants as token
-use Rattle.ticket_door.specs.Rule.{Initial, WordsFit, Gate, open_gate, shut, token_in, IsKept, next_at, serving_at, bell_at}
+use Rattle.ticket_door.specs.Rule.{Initial, WordsFit, Gate, open_gate, shut, token_in, IsKept, next_at, serving_at}
+use Rattle.ticket_door.specs.Rule.{bell_at}
 use Rattle.ticket_door.specs.Rule.{taken, bell_value}
 use Rattle.ticket_door.specs.Steps.{takes_ticket, polls_ticket, PollsTicketAt, TakesTicket}
 use Rattle.hoare_law.proofs.Admissions.{admissions-admit, admissions-other}
@@ -144,7 +145,8 @@ module _ {D : Type 0} (first n : ℕ) where
         due = let d = t.due in omega (arith, d, before, after, more);
         serving = t.serving ∙ ap (λ (g : Gate). (2 * (first + t.served) + shut g) % 2 ^ 64) is_open;
         kept = tt;
-        bells = λ j b. t.bells j b ∙ (ap (λ (u : Turn). bell_value u j) free ∙ sym (ap (λ (u : Turn). bell_value u j) held));
+        bells = λ j b. t.bells j b ∙ (ap (λ (u : Turn). bell_value u j) free ∙ sym
+            (ap (λ (u : Turn). bell_value u j) held));
       })
 
   -- the next ticket is served
@@ -294,7 +296,8 @@ module _ {D : Type 0} (first n : ℕ) where
         → outside k f.events ≡ true → Allows K slots id (asking k f x, []) serving_at (λ r. r)
         (polls_ticket first rest ready st (asking k f x, []))
     polls_ticket_ok slots id k x f st few out =
-        frame.told_as K slots id (asking k f x, []) serving_at (λ r. r) _ (polls_ticket first rest ready st (asking k f x, []))
+        frame.told_as K slots id (asking k f x, []) serving_at (λ r. r) _
+        (polls_ticket first rest ready st (asking k f x, []))
         (λ r m c j g y is. let q = frame.sole_is k j f g (Some (token.Ticket x)) (Some (token.Ticket y)) [] [] is in
         let same : x ≡ y = Ticket-injective x y q.2 in
         subst (λ (p : ℕ × (History D × ℕ)). PollsTicketAt first rest ready p.0 p.1.0 p.1.1 (asking k f x, []) r m)
@@ -308,7 +311,8 @@ module _ {D : Type 0} (first n : ℕ) where
         same has t hit))
 
     -- the same of a seat with that view
-    pub takes_ticket_at : (slots id k : ℕ) (f : History D) (st : Step (Option (Guarded D))) (m : SeatState D) (start places : ℕ)
+    pub takes_ticket_at : (slots id k : ℕ) (f : History D) (st : Step (Option (Guarded D))) (m : SeatState D)
+        (start places : ℕ)
         → m ≡ (alone k f, []) → first ≡ start → n ≡ places → outside k f.events ≡ true
         → Allows K slots id m next_at (λ r. (r + 1) % 2 ^ 64) (takes_ticket start places rest ready st m)
     takes_ticket_at slots id k f st m start places is same sized out =
@@ -316,7 +320,8 @@ module _ {D : Type 0} (first n : ℕ) where
         (takes_ticket p.1.0 p.1.1 rest ready st p.0))
         (λ i. (sym is i, (same i, sized i))) (takes_ticket_ok slots id k f st out)
 
-    pub polls_ticket_at : (slots id k x : ℕ) (f : History D) (st : Step (Option (Guarded D))) (m : SeatState D) (start : ℕ)
+    pub polls_ticket_at : (slots id k x : ℕ) (f : History D) (st : Step (Option (Guarded D))) (m : SeatState D)
+        (start : ℕ)
         → m ≡ (asking k f x, []) → first ≡ start → n ≤ 64 → outside k f.events ≡ true
         → Allows K slots id m serving_at (λ r. r) (polls_ticket start rest ready st m)
     polls_ticket_at slots id k x f st m start is same few out =

@@ -30,7 +30,8 @@ use Rattle.door_frame.specs.Steps.{SeatState, EnteredBy, EnteredWith}
 use Rattle.door_frame.specs.Views.{alone, trying, sole}
 use Rattle.door_frame.proofs.Steps as frame
 use Rattle.door_frame.proofs.Views.{given_to, given_here, given_else}
-use Rattle.ticket_door.specs.Rule.{Initial, WordsFit, Gate, open_gate, shut_by, shut, token_in, CloseGate, IsKept, next_at}
+use Rattle.ticket_door.specs.Rule.{Initial, WordsFit, Gate, open_gate, shut_by, shut, token_in, CloseGate, IsKept}
+use Rattle.ticket_door.specs.Rule.{next_at}
 use Rattle.ticket_door.specs.Rule.{serving_at, bell_at, taken, bell_value}
 use Rattle.ticket_door.specs.Tries.{IsTrying, HasGate, IsAdmitted, Reopened}
 use Rattle.ticket_door.specs.Steps.{closes_gate, admits_try, AdmitsTryAt, opens_gate}
@@ -103,7 +104,8 @@ module _ {D : Type 0} (first n : ℕ) where
         are_outside = t.are_outside;
         gate = shut_by k v;
         tokens_are =
-            closes_gate_tokens a t.queue k v tokens (λ j. t.tokens_are j ∙ ap (λ (g : Gate). token_in g a t.queue j) is_open);
+            closes_gate_tokens a t.queue k v tokens (λ j. t.tokens_are j ∙ ap (λ (g : Gate). token_in g a t.queue j)
+            is_open);
         next = get_or-set_other ws serving_at next_at _ 0 (λ e. omega (arith, e)) ∙ t.next;
         served = t.served;
         due = t.due;
@@ -247,7 +249,8 @@ module _ {D : Type 0} (first n : ℕ) where
         ))))
 
     -- a seat with that view, and the words that the call has
-    pub closes_gate_at : (slots id k v u b : ℕ) (f : History D) (m : SeatState D) → m ≡ (alone k f, []) → v ≡ (2 * b) % 2 ^ 64
+    pub closes_gate_at : (slots id k v u b : ℕ) (f : History D) (m : SeatState D) → m ≡ (alone k f, []) → v ≡ (2 * b) %
+        2 ^ 64
         → u ≡ v + 1
         → Allows K slots id m serving_at (changed v u) (closes_gate (step slots serving_at v u none) m)
     closes_gate_at slots id k v u b f m is even more =
@@ -327,7 +330,8 @@ module _ {D : Type 0} (first n : ℕ) where
     abbrev Opened : ℕ → History D → List (ℕ × Option (Guarded D)) → ℕ → SeatState D → Type 0
     Opened k f c r m = (o : Option Token) × (m ≡ (sole k f o, c)) × (o ≡ None)
 
-    opens_gate_ok : (slots id k v : ℕ) (f : History D) (c : List (ℕ × Option (Guarded D))) (st : Step (Option (Guarded D)))
+    opens_gate_ok : (slots id k v : ℕ) (f : History D) (c : List (ℕ × Option (Guarded D)))
+        (st : Step (Option (Guarded D)))
         → Allows K slots id (trying k f v, c) serving_at (λ r. (r + (2 ^ 64 - 1)) % 2 ^ 64)
         (opens_gate st (trying k f v, c))
     opens_gate_ok slots id k v f c st =

@@ -11,7 +11,8 @@ use Rattle.hoare_law.specs.Events.{place_of, with_event}
 use Rattle.hoare_law.specs.Priorities.{in_order, priorities}
 use Rattle.hoare_law.specs.Turns.{turn, outside}
 use Rattle.hoare_law.specs.Waiting.{priority_of, waiting, chosen}
-use Rattle.hoare_law.proofs.WithoutData.{turn-dataless, outside-dataless, priorities-dataless, dataless-push, chosen-dataless}
+use Rattle.hoare_law.proofs.WithoutData.{turn-dataless, outside-dataless, priorities-dataless, dataless-push}
+use Rattle.hoare_law.proofs.WithoutData.{chosen-dataless}
 use Rattle.hoare_law.proofs.WithoutData.{place_of-dataless, priority_of-dataless, waiting-dataless}
 use Rattle.hoare_law.proofs.Held.{handing}
 use Rattle.hoare_law.proofs.Priorities.{waiting-no_priority, priorities-nobody}
@@ -42,7 +43,8 @@ module _ {D : Type 0} where
       ap (in_order (λ n. n)) mapped ∙ in_order-in_order (λ n. n) (map priority_of (waiting c h)) ∙ sym mapped
 
   -- the waiting priorities of the book are those of the history
-  pub priorities_on-history : (b : Contents) (h : History D) → IsOf b (dataless h) → priorities_on b ≡ priorities h.events
+  pub priorities_on-history : (b : Contents) (h : History D) → IsOf b (dataless h) → priorities_on b ≡ priorities
+      h.events
   priorities_on-history b h o = λ i c. (ap (in_order (λ n. n)) (listed b h c o) ∙ in_order-priorities h.events c) i
 
   pub turn-history : (b : Contents) (h : History D) → IsOf b (dataless h) → b.turn ≡ turn h.events
@@ -58,7 +60,7 @@ module _ {D : Type 0} where
       → times_in k b ≡ 0
   times_in-outside b h k o out = eqb-true (times_in k b) 0 (sym (o.outside_are k) ∙ outside-dataless k h.events ∙ out)
 
-  -- a book of the erased history with one more event is of the longer history, erased
+  -- a book of the dataless history with one more event is of the longer history, dataless
   pub IsOf-event : (b : Contents) (h : History D) (e : Event D) → IsOf b (with_event (dataless h) (without_data e))
       → IsOf b (dataless (with_event h e))
   IsOf-event b h e o = subst (IsOf b) (sym (dataless-push h e)) o

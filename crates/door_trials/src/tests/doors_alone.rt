@@ -24,7 +24,8 @@ fn refused_baton<const N: usize, R: Abort>(
     alloc: Global,
     places: usize,
 ) -> (u64, MakeRefused) {
-    let Err((data, refused)) = Door::make(alloc, Unconstrained::<u64, N> { value: 7 }, places) else {
+    let Err((data, refused)) = Door::make(alloc, Unconstrained::<u64, N> { value: 7 }, places)
+    else {
         panic!(rt; "a door of no place, of too many, or of nine conditions")
     };
     (data.value, refused)

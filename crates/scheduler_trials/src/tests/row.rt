@@ -1,5 +1,5 @@
-//! A row of tests on a door of either kind, as an `AnyDoor` or by its own type: the door is made, each place acts by its
-//! number, and the door is closed.
+//! A row of tests on a door of either kind, as an `AnyDoor` or by its own type: the door is made, each place acts by
+//! its number, and the door is closed.
 ghost use Rattle.std.specs.Prelude.{◌≡◌, vec_len, All};
 ghost use Rattle.hoare_law.specs.Priorities.{nobody};
 ghost use Rattle.any_door.specs.Doors.{id_of};

@@ -10,7 +10,8 @@ compare_exchange-requires g c =
     let wide = c.requires.wide in (
       c.requires.table,
       omega (arith, wide),
-      claims_at D.rest D.ready (g.K.DoorKey.kinds c.args.table.now.shared.key) _ _ _ c.args.place away.0 _ _ away.1 c.owed-mine.ensures,
+      claims_at D.rest D.ready (g.K.DoorKey.kinds c.args.table.now.shared.key) _ _ _ c.args.place away.0 _ _ away.1
+          c.owed-mine.ensures,
     )
 
 pub take_parcel-requires-clause-full : goal.take_parcel-requires-clause-full

@@ -16,4 +16,5 @@ returns-in-Some c =
 pub returns-in-None : goal.returns-in-None
 returns-in-None c =
     let most = c.of.ensures.conditions in
-    nobody c.in-Inside.inside c.in-Inside.is (omega (arith, c.if-condition-of.false, most)) c.in-None.ensures.lists refl refl
+    nobody c.in-Inside.inside c.in-Inside.is (omega (arith, c.if-condition-of.false, most)) c.in-None.ensures.lists
+    refl refl

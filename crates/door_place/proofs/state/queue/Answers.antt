@@ -11,9 +11,11 @@ returns-then-condition-of c =
 pub returns-then-queue : goal.returns-then-queue
 returns-then-queue c =
     let most = c.of.ensures.conditions in
-    somebody c.in-Inside.inside c.in-Inside.is (omega (arith, c.if-condition-of.false, most)) (c.if-queue.ensures.lists.0 refl) refl
+    somebody c.in-Inside.inside c.in-Inside.is (omega (arith, c.if-condition-of.false, most))
+    (c.if-queue.ensures.lists.0 refl) refl
 
 pub returns-else-queue : goal.returns-else-queue
 returns-else-queue c =
     let most = c.of.ensures.conditions in
-    nobody c.in-Inside.inside c.in-Inside.is (omega (arith, c.if-condition-of.false, most)) (none-listed _ c.if-queue.ensures.lists) refl
+    nobody c.in-Inside.inside c.in-Inside.is (omega (arith, c.if-condition-of.false, most))
+    (none-listed _ c.if-queue.ensures.lists) refl

@@ -152,8 +152,8 @@ fn fills_and_empties_all_chains(rt: HostRuntime) -> Result<(), Fail> {
 }
 
 // Returns a step of an entering place, or of the place inside, now and then on a condition that doesn't exist. If
-// `fills`, it is any step of the place inside, except that place 0 never waits, so that a process can always enter. Else
-// it is a pass.
+// `fills`, it is any step of the place inside, except that place 0 never waits, so that a process can always enter.
+// Else it is a pass.
 fn mixed_step(past: &Past, fills: bool, number: u64) -> Result<Step, AllocError> {
     let (Next::Held(inside) | Next::For(inside)) = past.now()? else {
         return Ok(entry(past, number));

@@ -9,4 +9,5 @@ invariant-loop-link l =
     (goal.iterator-loop-link).can_next l.link-iterator ×
     (goal.iterator-loop-link).is_finite l.link-iterator ×
     (l.number + length l.link-iterator ≤ 64) ×
-    (position_from l.number l.place (places_in l.link-iterator) ≡ position_from 0 l.place (places_in (list_at l.chains 9)))
+    (position_from l.number l.place (places_in l.link-iterator) ≡ position_from 0 l.place
+    (places_in (list_at l.chains 9)))

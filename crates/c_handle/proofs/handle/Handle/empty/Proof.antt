@@ -7,7 +7,8 @@ use base.Logic.{SProp, ent, emp, id⊢}
 use base.Fml.{ftrue, flft}
 use base.Fraction.{full_share}
 use prog.Wp.{WpFn}
-use types.Kit.{‵, raw, ◌⊛◌, ◌$◌, ◌∵◌, !, qed, by, move, keep, drop, use0, split, join, fsplit, fsplit3, fjoin, fjoin3, feq_i, feq_l, rewrite, suffices}
+use types.Kit.{‵, raw, ◌⊛◌, ◌$◌, ◌∵◌, !, qed, by, move, keep, drop, use0, split, join, fsplit, fsplit3, fjoin, fjoin3}
+use types.Kit.{feq_i, feq_l, rewrite, suffices}
 use types.Run.{stop, fld, load, of_opd, no_more, and_then, assigns, returns, enter}
 use types.ByLocal.{alloc_all, pass_all, free_all, look_at, get, through, sets}
 use types.Part.{agg, sub, whole, look_in, store_in}
@@ -39,11 +40,24 @@ empty_spec 𝓤 𝓛 𝓜 𝓡 wired T L =
     let R : RattleType = param 0 T in let Hd : RattleType = H R in let En = f.ended T in
     let c = f.clauses T 𝓛 𝓜.mem 𝓡.returns in let 𝓣 = tables 𝓤 𝓛.H 𝓜 𝓡 𝓡.env in
     let fn = inst_fn (layouts (a_type ∷ []) (T, tt)) code.function in
-    let hs : Stays En.signature.params En.kept = (stay_ref (0 ∷ []) tt (plain (λ _. Hd)), (stay_dropped (plain (λ _. Z)) yes, (stay_dropped (plain (λ _. RawPtr)) yes, tt))) in
-    proved_at 𝓛 En hs c 𝓜 𝓡 (Goes-ref 𝓛 2 0 tt (plain (λ _. Hd)), (Goes-blank 𝓛 2 (plain (λ _. Z)) yes (λ κs x f. tt), (Goes-blank 𝓛 2 (plain (λ _. RawPtr)) yes (λ κs x f. tt), tt)))
+    let hs : Stays En.signature.params En.kept = (
+      stay_ref (0 ∷ []) tt (plain (λ _. Hd)),
+      (stay_dropped (plain (λ _. Z)) yes, (stay_dropped (plain (λ _. RawPtr)) yes, tt)),
+    ) in
+    proved_at 𝓛 En hs c 𝓜 𝓡 (
+      Goes-ref 𝓛 2 0 tt (plain (λ _. Hd)),
+      (
+        Goes-blank 𝓛 2 (plain (λ _. Z)) yes (λ κs x f. tt),
+        (
+          Goes-blank 𝓛 2 (plain (λ _. RawPtr)) yes (λ κs x f. tt),
+          tt,
+        ),
+      ),
+    )
     (#self (layouts (a_type ∷ []) (T, tt))) fn (code.unfolded 𝓤 𝓛.H 𝓜 𝓡 wired (T, tt)) (λ z are.
     let κ = z.0.0.0 in let κ₁ = z.0.0.1.0 in let q = z.0.1.0 in let q₁ = z.0.1.1.0 in
-    let s = z.0.3.0 in let rb = s.ref_ptr.0 in let ro = s.ref_ptr.1 in let d = s.now in let a = z.0.3.1.0 in let p = z.0.3.1.1.0 in
+    let s = z.0.3.0 in let rb = s.ref_ptr.0 in let ro = s.ref_ptr.1 in let d = s.now in let a = z.0.3.1.0 in
+    let p = z.0.3.1.1.0 in
     let w : Val = ptr_val p in
     let Post : Val → SProp 𝓤 = (walk_of 𝓛 En hs c).post z in
     let Run : List Val → SProp 𝓤 = λ ws. WpFn 𝓤 𝓛.H 𝓣.C 𝓣.Λ fn ws Post in
@@ -51,17 +65,22 @@ empty_spec 𝓤 𝓛 𝓜 𝓡 wired T L =
     ∷ (raw (fact 𝓤 (κ₁ ⊑ T.lives)) ⊛ raw (fact 𝓤 (d.live ≡ 1))) ∷ []) ∵
     move ! (1 ∷ []) $ split ! $ drop ! $ heard ! (d.live ≡ 1) (λ one.
     split ! $ split ! $ move ! (2 ∷ []) $ fsplit ! $ fsplit3 ! $ feq_l ! (λ es. move ! (2 ∷ []) $ fsplit !
-    $ handle_tells al ! a z.0.4.1.0 (λ h ea fits. move ! (1 ∷ []) $ fsplit ! $ feq_l ! (λ ep. drop ! $ move ! (1 ∷ 2 ∷ 3 ∷ []) $
+    $ handle_tells al ! a z.0.4.1.0 (λ h ea fits. move ! (1 ∷ []) $ fsplit ! $ feq_l !
+    (λ ep. drop ! $ move ! (1 ∷ 2 ∷ 3 ∷ []) $
     -- [the loan; the token of its lifetime; the allocator; the other token]
-    suffices ! (Run (vptr rb ro ∷ h ∷ w ∷ [])) (subst (λ (us : List Val). ent 𝓤 (Run (vptr rb ro ∷ h ∷ w ∷ [])) (Run us))
+    suffices ! (Run (vptr rb ro ∷ h ∷ w ∷ [])) (subst (λ (us : List Val). ent 𝓤 (Run (vptr rb ro ∷ h ∷ w ∷ []))
+    (Run us))
     (sym (λ i. es i ++ (ea i ++ (ep i ++ [])))) (id⊢ 𝓤 (Run (vptr rb ro ∷ h ∷ w ∷ [])))) $
-    enter ! 𝓣.C 𝓣.Λ fn (vptr rb ro ∷ h ∷ w ∷ []) Post $ alloc_all ! (λ l. pass_all ! refl ((tt, tt), (fits, (ptr_good p, tt))) $
+    enter ! 𝓣.C 𝓣.Λ fn (vptr rb ro ∷ h ∷ w ∷ []) Post $ alloc_all !
+    (λ l. pass_all ! refl ((tt, tt), (fits, (ptr_good p, tt))) $
     opens ! tt Hd {h = d} rb ro (λ us. move ! (1 ∷ []) $ handle_out R ! d us one (λ b o h' at_b ws fits'.
     rewrite ! 2 (λ (xs : List Val). ‵ (cell_at full_share Hd.mir xs rb ro)) ws refl $
     -- [the value in its block; its allocator; the struct's cell; the open borrow, in three entries; the allocator; a
     -- token]
-    sets ! (of_opd ! (load ! (through ! refl (fld ! refl (stop !))) (look_in ! 2 (sub ! 0 refl (whole !))))) refl (tt, tt) $
-    assigns ! (of_opd ! (get ! refl)) (through ! refl (fld ! refl (stop !))) (store_in ! 2 (sub ! 0 refl (whole !)) (ptr_good p)) $
+    sets ! (of_opd ! (load ! (through ! refl (fld ! refl (stop !))) (look_in ! 2 (sub ! 0 refl (whole !))))) refl
+    (tt, tt) $
+    assigns ! (of_opd ! (get ! refl)) (through ! refl (fld ! refl (stop !)))
+    (store_in ! 2 (sub ! 0 refl (whole !)) (ptr_good p)) $
     sets ! (agg ! (and_then ! (get ! refl) (and_then ! (get ! refl) (no_more !)))) refl
     (loose_good R Z global_laws.the_row_laws heap.ghosts b o h fits) $
     move ! (0 ∷ 6 ∷ []) $ loose_in R Z global_laws.the_row_laws heap.ghosts ! b o h a d.value $

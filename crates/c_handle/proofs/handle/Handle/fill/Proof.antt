@@ -7,7 +7,8 @@ use base.Logic.{SProp, ent, emp, id⊢}
 use base.Fml.{ftrue, flft}
 use base.Fraction.{full_share}
 use prog.Wp.{WpFn}
-use types.Kit.{‵, raw, ◌⊛◌, ◌$◌, ◌∵◌, !, qed, by, move, keep, drop, use0, split, join, fsplit, fsplit3, fjoin, fjoin3, feq_i, feq_l, rewrite, suffices}
+use types.Kit.{‵, raw, ◌⊛◌, ◌$◌, ◌∵◌, !, qed, by, move, keep, drop, use0, split, join, fsplit, fsplit3, fjoin, fjoin3}
+use types.Kit.{feq_i, feq_l, rewrite, suffices}
 use types.Run.{stop, fld, of_opd, unit_lit, assigns, returns, enter}
 use types.ByLocal.{alloc_all, pass_all, free_all, look_at, get, get_in, through, sets}
 use types.Part.{sub, whole, store_in}
@@ -39,8 +40,14 @@ fill_spec 𝓤 𝓛 𝓜 𝓡 wired T L =
     let c = f.clauses T 𝓛 𝓜.mem 𝓡.returns in let 𝓣 = tables 𝓤 𝓛.H 𝓜 𝓡 𝓡.env in
     let fn = inst_fn (layouts (a_type ∷ []) (T, tt)) code.function in
     let Ls : RattleType = Loose R Z global_laws.the_row_laws heap.ghosts in
-    let hs : Stays En.signature.params En.kept = (stay_ref (0 ∷ []) tt (plain (λ _. Hd)), (stay_dropped (plain (λ _. Ls)) no, tt)) in
-    proved_at 𝓛 En hs c 𝓜 𝓡 (Goes-ref 𝓛 2 0 tt (plain (λ _. Hd)), (Goes-blank 𝓛 2 (plain (λ _. Ls)) no (λ κs x f. tt), tt))
+    let hs : Stays En.signature.params En.kept = (
+      stay_ref (0 ∷ []) tt (plain (λ _. Hd)),
+      (stay_dropped (plain (λ _. Ls)) no, tt),
+    ) in
+    proved_at 𝓛 En hs c 𝓜 𝓡 (
+      Goes-ref 𝓛 2 0 tt (plain (λ _. Hd)),
+      (Goes-blank 𝓛 2 (plain (λ _. Ls)) no (λ κs x f. tt), tt),
+    )
     (#self (layouts (a_type ∷ []) (T, tt))) fn (code.unfolded 𝓤 𝓛.H 𝓜 𝓡 wired (T, tt)) (λ z are.
     let κ = z.0.0.0 in let κ₁ = z.0.0.1.0 in let q = z.0.1.0 in let q₁ = z.0.1.1.0 in
     let s = z.0.3.0 in let rb = s.ref_ptr.0 in let ro = s.ref_ptr.1 in let d = s.now in let x = z.0.3.1.0 in
@@ -63,7 +70,8 @@ fill_spec 𝓤 𝓛 𝓜 𝓡 wired T L =
     -- [the allocator; the struct's cell; the open borrow, in three entries; the value in its block; its allocator; a
     -- token]
     sets ! (of_opd ! (get_in ! (fld ! refl (stop !)) (sub ! 0 refl (whole !)))) refl (tt, tt) $
-    assigns ! (of_opd ! (get ! refl)) (through ! refl (fld ! refl (stop !))) (store_in ! 1 (sub ! 0 refl (whole !)) (tt, tt)) $
+    assigns ! (of_opd ! (get ! refl)) (through ! refl (fld ! refl (stop !)))
+    (store_in ! 1 (sub ! 0 refl (whole !)) (tt, tt)) $
     sets ! (of_opd ! (unit_lit !)) refl (tt, tt) $
     move ! (5 ∷ 0 ∷ []) $ handle_in R ! (block_ptr b o) h' d.alloc 1 x.value $ move ! (1 ∷ 0 ∷ 2 ∷ 3 ∷ 4 ∷ []) $
     let d' : Hd.Denot = record { at = block_ptr b o; alloc = d.alloc; live = 1; value = x.value } in

@@ -16,13 +16,15 @@ came g c = elim c.if-is_full.branch [
   | then-is_full w ↦
       let full = rw c.state.ensures at (c.is_full.ensures.0 w.if-is_full.true) in
       rw w.inside-is
-      (GotInside-waited g.M.Monitor c.enter-inside.ensures.place c.enter-inside.ensures.front full w.wait-inside.ensures.of
+      (GotInside-waited g.M.Monitor c.enter-inside.ensures.place c.enter-inside.ensures.front full
+      w.wait-inside.ensures.of
       w.wait-inside.ensures.place
       w.wait-inside.ensures.front refl refl (w.wait-inside.ensures.ready (omega arith)))
   | else-is_full w ↦
       let room = rw c.state.ensures at (iff_false c.is_full.ensures w.if-is_full.false) in
       rw w.inside-is
-      (GotInside-at_once g.M.Monitor c.enter-inside.ensures.of c.enter-inside.ensures.place c.enter-inside.ensures.front room
+      (GotInside-at_once g.M.Monitor c.enter-inside.ensures.of c.enter-inside.ensures.place
+      c.enter-inside.ensures.front room
       (RoomReady-at_once c.enter-inside.ensures.rest room))
 ]
 

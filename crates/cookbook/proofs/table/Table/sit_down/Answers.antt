@@ -16,7 +16,8 @@ came g c = elim c.if-not-can_eat.branch [
       let ready = w.wait-inside.ensures.ready (omega (arith, c.requires.seat)) in
       let cannot = rw c.state.ensures at (iff_false c.can_eat.ensures w.if-not-can_eat.true) in
       rw w.inside-is
-      (GotInside-waited g.M.Monitor c.enter-inside.ensures.place c.enter-inside.ensures.front cannot w.wait-inside.ensures.of
+      (GotInside-waited g.M.Monitor c.enter-inside.ensures.place c.enter-inside.ensures.front cannot
+      w.wait-inside.ensures.of
       w.wait-inside.ensures.place
       w.wait-inside.ensures.front refl refl (ready.inv, ready.can))
   | else-not-can_eat w ↦

@@ -9,7 +9,8 @@ use Rattle.door_handle.proofs.door.HeldDoor.make.Goals.{in-Ok-keep, in-Err-keep}
 pub returns-clause-made : goal.returns-clause-made
 returns-clause-made c = λ empty.
     elim c.match-keep.branch [
-      | in-Ok-keep w ↦ made c.in-Ok.keeper w.in-Ok-keep.ensures.0 (ap (λ (d : KeeperSlot). d.keeper) w.in-Ok-keep.ensures.1)
+      | in-Ok-keep w ↦ made c.in-Ok.keeper w.in-Ok-keep.ensures.0
+          (ap (λ (d : KeeperSlot). d.keeper) w.in-Ok-keep.ensures.1)
           c.in-Ok.ensures.made w.result-is
       | in-Err-keep w ↦ refused
           (ap (λ (s : generic.Held KeeperSlot). s.live) (w.in-Err-keep.ensures.1 ∙ c.held.ensures.value) ∙ empty)

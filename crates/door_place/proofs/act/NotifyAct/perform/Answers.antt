@@ -13,14 +13,19 @@ pub returns-then-condition-limits-2-clause-made : goal.returns-then-condition-li
 returns-then-condition-limits-2-clause-made c =
     let most = c.of-limits.ensures.conditions in
     let hoare = c.of-limits.ensures.hoare in
-    wrong_kind c.in-Inside.inside c.in-Inside.is (sym c.in-Inside.is) (omega (arith, c.if-condition-limits-2.true, hoare)) refl
+    wrong_kind c.in-Inside.inside c.in-Inside.is (sym c.in-Inside.is)
+    (omega (arith, c.if-condition-limits-2.true, hoare)) refl
 
 pub returns-clause-made : goal.returns-clause-made
 returns-clause-made c =
     let most = c.of-limits.ensures.conditions in
     let hoare = c.of-limits.ensures.hoare in
     let e = c.notify-notified.ensures in
-    notified c.in-Inside.inside _ _ c.in-Inside.is refl (omega (arith, c.if-condition-limits.false, most), omega (arith, c.if-condition-limits-2.false, hoare)) e.place e.data e.front
+    notified c.in-Inside.inside _ _ c.in-Inside.is refl (
+      omega (arith, c.if-condition-limits.false, most),
+      omega
+          (arith, c.if-condition-limits-2.false, hoare),
+    ) e.place e.data e.front
     (c.from.ensures ∙ bool_code c.notify-notified.result)
 
 pub returns-clause-front : goal.returns-clause-front

@@ -14,14 +14,16 @@ pub returns-then-condition-limits-2-clause-made : goal.returns-then-condition-li
 returns-then-condition-limits-2-clause-made c =
     let most = c.of-limits.ensures.conditions in
     let hoare = c.of-limits.ensures.hoare in
-    wrong_kind c.in-Inside.inside c.in-Inside.is (sym c.in-Inside.is) (omega (arith, c.if-condition-limits.false, most), omega (arith, c.if-condition-limits-2.true, hoare)) refl
+    wrong_kind c.in-Inside.inside c.in-Inside.is (sym c.in-Inside.is)
+    (omega (arith, c.if-condition-limits.false, most), omega (arith, c.if-condition-limits-2.true, hoare)) refl
 
 pub returns-in-Ok-clause-made : goal.returns-in-Ok-clause-made
 returns-in-Ok-clause-made c =
     let most = c.of-limits.ensures.conditions in
     let hoare = c.of-limits.ensures.hoare in
     let o = c.in-Ok.ensures in
-    signals c.in-Inside.inside _ c.in-Inside.is refl (omega (arith, c.if-condition-limits-2.false, hoare)) o.place o.front
+    signals c.in-Inside.inside _ c.in-Inside.is refl (omega (arith, c.if-condition-limits-2.false, hoare)) o.place
+    o.front
     (woken c.args.door.now o.of.sized o.of.stands c.code_of.ensures.few o.next c.code_of.ensures.is)
 
 pub returns-in-Ok-clause-front : goal.returns-in-Ok-clause-front
@@ -33,4 +35,5 @@ returns-in-Err-clause-made c =
     let most = c.of-limits.ensures.conditions in
     let hoare = c.of-limits.ensures.hoare in
     let o = c.in-Err.ensures in
-    nobody c.in-Inside.inside c.in-Inside.is (ap (λ i. Inside i) o.same ∙ sym c.in-Inside.is) (omega (arith, c.if-condition-limits-2.false, hoare)) o.nobody refl
+    nobody c.in-Inside.inside c.in-Inside.is (ap (λ i. Inside i) o.same ∙ sym c.in-Inside.is)
+    (omega (arith, c.if-condition-limits-2.false, hoare)) o.nobody refl

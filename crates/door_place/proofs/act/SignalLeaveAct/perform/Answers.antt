@@ -13,14 +13,16 @@ pub returns-then-condition-limits-2-clause-made : goal.returns-then-condition-li
 returns-then-condition-limits-2-clause-made c =
     let most = c.of-limits.ensures.conditions in
     let hoare = c.of-limits.ensures.hoare in
-    wrong_kind c.in-Inside.inside c.in-Inside.is (sym c.in-Inside.is) (omega (arith, c.if-condition-limits.false, most), omega (arith, c.if-condition-limits-2.true, hoare)) refl
+    wrong_kind c.in-Inside.inside c.in-Inside.is (sym c.in-Inside.is)
+    (omega (arith, c.if-condition-limits.false, most), omega (arith, c.if-condition-limits-2.true, hoare)) refl
 
 pub returns-clause-made : goal.returns-clause-made
 returns-clause-made c =
     let most = c.of-limits.ensures.conditions in
     let hoare = c.of-limits.ensures.hoare in
     let o = c.signal_leave_to-out.ensures in
-    exits c.in-Inside.inside _ _ c.in-Inside.is refl (omega (arith, c.if-condition-limits-2.false, hoare)) o.place o.front
+    exits c.in-Inside.inside _ _ c.in-Inside.is refl (omega (arith, c.if-condition-limits-2.false, hoare)) o.place
+    o.front
     (woken c.args.door.now o.of.sized o.of.stands c.code_of.ensures.few o.next c.code_of.ensures.is)
 
 pub returns-clause-front : goal.returns-clause-front

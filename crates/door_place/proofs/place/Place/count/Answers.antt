@@ -7,4 +7,5 @@ use Rattle.door_place.proofs.place.Place.count.Goals as goal
 pub returns : goal.returns
 returns c =
     subst (λ (p : PlaceAt). Counts p.door p.state c.args.condition c.count.result) c.self.view_is
-    (subst (λ (d : StepId). Counts d c.self.inside.state c.args.condition c.count.result) (c.door.ensures ∙ c.deref.ensures) c.count.ensures)
+    (subst (λ (d : StepId). Counts d c.self.inside.state c.args.condition c.count.result)
+    (c.door.ensures ∙ c.deref.ensures) c.count.ensures)

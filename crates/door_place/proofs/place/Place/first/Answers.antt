@@ -6,5 +6,7 @@ use Rattle.door_place.proofs.place.Place.first.Goals as goal
 
 pub returns : goal.returns
 returns c =
-    subst (λ (p : PlaceAt). AsksFirst p.door p.state c.args.condition c.args.priority.now c.first.new.priority c.first.result) c.self.view_is
-    (subst (λ (d : StepId). AsksFirst d c.self.inside.state c.args.condition c.args.priority.now c.first.new.priority c.first.result) (c.door.ensures ∙ c.deref.ensures) c.first.ensures)
+    subst (λ (p : PlaceAt). AsksFirst p.door p.state c.args.condition c.args.priority.now c.first.new.priority
+    c.first.result) c.self.view_is
+    (subst (λ (d : StepId). AsksFirst d c.self.inside.state c.args.condition c.args.priority.now c.first.new.priority
+    c.first.result) (c.door.ensures ∙ c.deref.ensures) c.first.ensures)

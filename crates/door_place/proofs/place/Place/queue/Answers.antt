@@ -7,4 +7,5 @@ use Rattle.door_place.proofs.place.Place.queue.Goals as goal
 pub returns : goal.returns
 returns c =
     subst (λ (p : PlaceAt). AsksQueue p.door p.state c.args.condition c.queue.result) c.self.view_is
-    (subst (λ (d : StepId). AsksQueue d c.self.inside.state c.args.condition c.queue.result) (c.door.ensures ∙ c.deref.ensures) c.queue.ensures)
+    (subst (λ (d : StepId). AsksQueue d c.self.inside.state c.args.condition c.queue.result)
+    (c.door.ensures ∙ c.deref.ensures) c.queue.ensures)

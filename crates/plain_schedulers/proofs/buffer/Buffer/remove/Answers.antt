@@ -16,13 +16,15 @@ came g c = elim c.if-is_empty.branch [
   | then-is_empty w ↦
       let none = rw c.state.ensures at (c.is_empty.ensures.0 w.if-is_empty.true) in
       rw w.inside-is
-      (GotInside-waited g.M.Monitor c.enter-inside.ensures.place c.enter-inside.ensures.front none w.wait-inside.ensures.of
+      (GotInside-waited g.M.Monitor c.enter-inside.ensures.place c.enter-inside.ensures.front none
+      w.wait-inside.ensures.of
       w.wait-inside.ensures.place
       w.wait-inside.ensures.front refl refl (w.wait-inside.ensures.ready (omega arith)))
   | else-is_empty w ↦
       let some = rw c.state.ensures at (iff_false c.is_empty.ensures w.if-is_empty.false) in
       rw w.inside-is
-      (GotInside-at_once g.M.Monitor c.enter-inside.ensures.of c.enter-inside.ensures.place c.enter-inside.ensures.front some
+      (GotInside-at_once g.M.Monitor c.enter-inside.ensures.of c.enter-inside.ensures.place
+      c.enter-inside.ensures.front some
       (ReadyNonempty-at_once c.enter-inside.ensures.rest some))
 ]
 

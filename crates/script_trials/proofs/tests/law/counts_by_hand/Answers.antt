@@ -1,6 +1,7 @@
 use Rattle.std.proofs.Common.{refl}
 use Rattle.hoare_law.specs.Waiting.{waiting}
-use Rattle.hoare_law.specs.Overtaking.{releases, returned, signals, resumed_called, taken_from, waits_below, waiters_up_to, visits}
+use Rattle.hoare_law.specs.Overtaking.{releases, returned, signals, resumed_called, taken_from, waits_below}
+use Rattle.hoare_law.specs.Overtaking.{waiters_up_to, visits}
 use Rattle.hoare_law.specs.Overtaking.{notifications, waiting_anywhere}
 use Rattle.script_trials.proofs.tests.law.counts_by_hand.Goals as goal
 

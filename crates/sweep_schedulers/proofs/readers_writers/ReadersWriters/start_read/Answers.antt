@@ -11,9 +11,11 @@ use Rattle.sweep_schedulers.proofs.readers_writers.ReadersWriters.start_read.Goa
 
 -- the process entered and, after a wait or without one, finds no writer in
 came : (g : Over) (c : After-state_mut g)
-    → GotInside g.M.Monitor c.args.m.now c.args.out ReaderHeldUp (λ _. 0) (λ _. 0) (λ d _. ReadReady d) c.if-is_busy.inside
+    → GotInside g.M.Monitor c.args.m.now c.args.out ReaderHeldUp (λ _. 0) (λ _. 0) (λ d _. ReadReady d)
+    c.if-is_busy.inside
 came g c = elim c.if-is_busy.branch [
-  | then-is_busy w ↦ rw w.inside-is (GotInside-waited g.M.Monitor c.enter-inside.ensures.place c.enter-inside.ensures.front
+  | then-is_busy w ↦ rw w.inside-is (GotInside-waited g.M.Monitor c.enter-inside.ensures.place
+      c.enter-inside.ensures.front
       (search rules) w.wait-inside.ensures.of w.wait-inside.ensures.place
       w.wait-inside.ensures.front refl refl (w.wait-inside.ensures.ready (omega arith)))
   | else-is_busy+else-queue w ↦

@@ -22,7 +22,8 @@ came g c = elim c.if-is_in_use.branch [
   | then-is_in_use w ↦
       let used = rw c.state.ensures at (c.is_in_use.ensures.0 w.if-is_in_use.true) in
       rw w.inside-is
-      (GotInside-waited g.M.Monitor c.enter-inside.ensures.place c.enter-inside.ensures.front used w.wait-inside.ensures.of
+      (GotInside-waited g.M.Monitor c.enter-inside.ensures.place c.enter-inside.ensures.front used
+      w.wait-inside.ensures.of
       w.wait-inside.ensures.place
       w.wait-inside.ensures.front refl refl (w.wait-inside.ensures.ready (omega arith)))
   | else-is_in_use w ↦

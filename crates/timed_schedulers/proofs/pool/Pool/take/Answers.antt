@@ -44,7 +44,8 @@ came g c =
           let some : free_count (g.M.Monitor.data_in c.enter-inside.result) ≢ 0 =
           λ none. w.if-free-eq0.false ((rw c.state-2.ensures at c.free.ensures.answer) ∙ none) in
           rw w.inside-is
-          (GotInside-at_once g.M.Monitor c.enter-inside.ensures.of c.enter-inside.ensures.place c.enter-inside.ensures.front
+          (GotInside-at_once g.M.Monitor c.enter-inside.ensures.of c.enter-inside.ensures.place
+          c.enter-inside.ensures.front
           (λ must. some must.1) (stream, PoolReady-idle c.enter-inside.ensures.rest some))
     ]
 

@@ -16,7 +16,8 @@ came g c = elim c.if-is_empty.branch [
       waited.holds waited.free (waited.enters (g.M.Monitor.front c.args.out)))
   | else-is_empty w ↦
       rw w.inside-is
-      (GotInsideFree-at_once g.M.Monitor c.enter-inside.ensures.of c.enter-inside.ensures.place c.enter-inside.ensures.rest
+      (GotInsideFree-at_once g.M.Monitor c.enter-inside.ensures.of c.enter-inside.ensures.place
+      c.enter-inside.ensures.rest
       c.enter-inside.ensures.front (rw c.state.ensures at (iff_false c.is_empty.ensures w.if-is_empty.false)))
 ]
 

@@ -75,7 +75,7 @@ pub filter-false : {X : Type 0} (xs : List X) → filter (λ x. false) xs ≡ []
 filter-false [] = refl
 filter-false (x ∷ xs) = filter-false xs
 
--- a test that holds wherever another does
+-- if all elements pass a test, they all pass each test that it implies
 pub list_all-weaker : {X : Type 0} (p q : X → Bool) (xs : List X) → ((x : X) → p x ≡ true → q x ≡ true)
     → list_all p xs ≡ true → list_all q xs ≡ true
 list_all-weaker p q [] f a = refl

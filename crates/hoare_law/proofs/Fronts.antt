@@ -217,7 +217,7 @@ module _ {S : Type 0} where
           waits_on-is _ x was.waits ∙ (λ i. Wait (r.place i) (r.on i) (priority_of x) (data_of x)) in
           (priority_of x, data_of x, ap (λ j. newest (own j h.events)) (sym r.place) ∙ was.last ∙ ap (λ y. Some y) is)
 
-  -- the events of k are those of place k
+  -- the last event of k is an event of place k
   pub place_of-own : (h : List (Event S)) (k : ℕ) (x : Event S) → newest (own k h) ≡ Some x → place_of x ≡ k
   place_of-own h k x is =
       let r : (ys : List (Event S)) × (own k h ≡ ys ++ x ∷ []) = newest-some (own k h) x is in

@@ -46,7 +46,7 @@ not_held [] [] k e = cc
 not_held [] (w ∷ ws) k e = cc
 not_held (u ∷ us) ws k e = cc
 
--- it is owed, if no signaller waits, to the first notified process
+-- if it is owed to a place, no signaller waits, and that place is the first notified
 owed_first : {S : Type 0} (us : List ℕ) (ws : List (Event S)) (w c : ℕ) → turn_given_up us ws ≡ Owed w c
     → (us ≡ []) × (x : Event S) × (xs : List (Event S)) × (ws ≡ x ∷ xs) × (place_of x ≡ w) × (condition_of x ≡ c)
 owed_first [] [] w c e = absurd (cc)

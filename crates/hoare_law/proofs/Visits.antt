@@ -328,7 +328,7 @@ module _ {S : Type 0} where
   signal_waits f k c w s may =
       let less = anywhere_less f.events (Signal k c w s) k c w refl (λ b i. refl) may.fits.1 in omega (arith, less)
 
-  -- so a place that may signal finds at most two signallers less than there are places
+  -- so if a place may signal, there are at least two places more than signallers
   pub signal_room : (f : History S) (k c w : ℕ) (s : S) → IsLegal f → Allowed f (Signal k c w s)
       → length (urgent f.events) + 2 ≤ f.sizes.places
   signal_room f k c w s legal may =
@@ -351,7 +351,7 @@ module _ {S : Type 0} where
       let many = ap length is ∙ length-append us (x ∷ vs) in
       omega (arith, room, many, called_at_most h f later us x vs legal at is none)
 
-  -- so there are at most three visits less than twice the places
+  -- so the visits and three more are at most twice the places
   pub few_in_all : (h : History S) (f later : List (Event S)) (k c w : ℕ) (s : S) → IsLegal h
       → h.events ≡ f ++ Signal k c w s ∷ later → own k later ≡ []
       → visits later + 3 ≤ 2 * h.sizes.places

@@ -20,11 +20,6 @@ hand_on-requires-clause-inv g c = λ _ _.
     (g.met.M.Monitor.takes_data c.enter-inside.result c.stop.new.self
     ∙ (rw c.state_mut.ensures.value at c.stop.ensures))
 
-pub returns-clause-place : goal.returns-clause-place
-returns-clause-place g c =
-    c.hand_on.ensures.place
-    ∙ (g.met.M.Monitor.keeps_place c.enter-inside.result c.stop.new.self ∙ c.enter-inside.ensures.place)
-
 pub returns-clause-trace : goal.returns-clause-trace
 returns-clause-trace g c =
     got_up _ _ c.enter-inside.ensures.front (search rules) (HandsOn-as c.hand_on.ensures.trace

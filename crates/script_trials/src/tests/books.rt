@@ -19,7 +19,8 @@ fn made<R: Abort + AllocGlobal>(rt: &R, places: usize, conditions: usize, mesa: 
     Book::make(rt.alloc(), places, conditions, mesa).expect(rt, "a book")
 }
 
-// Does a step, the one with this number, on the book and on the list of events. Fails if their answers differ.
+// Does a step, the one with this number, on the book and on the list of events, which forgets them when all places are
+// outside. Fails if their answers differ.
 fn answer_alike<R: Abort>(
     rt: &R,
     number: u64,

@@ -55,16 +55,13 @@ fn priority_of(kind: Kind, i: u64, number: u64) -> u64 {
     }
 }
 
-// Returns the entry of a place: mostly of one that is outside, and of place 0 only if no other is.
+// Returns the entry of a place: mostly of one that is outside, and seldom of place 0 if others are.
 fn entry(past: &Past, number: u64) -> Step {
     let any = (number >> 32) % 64;
-    if number >> 61 == 0 {
+    if number >> 61 == 0 || past.outside(any as usize) {
         return Step::Enter(any);
     }
-    match past.newcomer(any) {
-        Some(0) | None => Step::Enter(past.newcomer(1).unwrap_or(0)),
-        Some(place) => Step::Enter(place),
-    }
+    Step::Enter(past.newcomer(1).unwrap_or(any))
 }
 
 fn step_of(part: Part, i: u64, past: &Past, number: u64) -> Result<Step, AllocError> {

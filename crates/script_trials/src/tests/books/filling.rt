@@ -167,7 +167,7 @@ fn mixed_step(past: &Past, fills: bool, number: u64) -> Result<Step, AllocError>
     })
 }
 
-// 10,000 steps of 64 places, with all chains used together. In the second half of each 500 steps passes empty them all.
+// 10,000 steps of 64 places, with all chains used together. The last 300 of each 500 steps only enter and pass: all are empty then.
 #[test]
 fn uses_all_chains_together(rt: HostRuntime) -> Result<(), Fail> {
     let mut book = made(&rt, 64, 8, 0);
@@ -175,7 +175,7 @@ fn uses_all_chains_together(rt: HostRuntime) -> Result<(), Fail> {
     let mut number = 1;
     for i in 0..10_000u64 {
         number = next_number(number);
-        let step = mixed_step(&past, i % 500 < 250, number)?;
+        let step = mixed_step(&past, i % 500 < 200, number)?;
         answer_alike(&rt, i, step, &mut book, &mut past)?;
         let alike = is_like(&book, &past, (number >> 56) % 8)?;
         expect_same(&rt, (i, alike), (i, true));

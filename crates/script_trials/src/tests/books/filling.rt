@@ -167,7 +167,8 @@ fn mixed_step(past: &Past, fills: bool, number: u64) -> Result<Step, AllocError>
     })
 }
 
-// 10,000 steps of 64 places, with all chains used together. The last 300 of each 500 steps only enter and pass: all are empty then.
+// 10,000 steps of 64 places, with all chains used together. The last 300 of each 500 steps only enter and pass: all
+// chains are empty then.
 #[test]
 fn uses_all_chains_together(rt: HostRuntime) -> Result<(), Fail> {
     let mut book = made(&rt, 64, 8, 0);

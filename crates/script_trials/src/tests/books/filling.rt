@@ -32,7 +32,7 @@ struct Part {
 }
 
 fn part_of(i: u64) -> Part {
-    let kind = match i / 3_200 {
+    let kind = match (i / 400) % 5 {
         0 => Kind::Equal,
         1 => Kind::Rising,
         2 => Kind::Falling,
@@ -122,15 +122,15 @@ fn fullest(part: Part) -> (usize, usize, usize) {
     }
 }
 
-// 16,000 steps of 64 places. Each of the eight chains and the chain of the signallers is filled up to 63 and emptied
-// again, with equal, rising, falling and mixed priorities.
+// 8,000 steps of 64 places. Each of the eight chains and the chain of the signallers is filled up to 63 and emptied
+// again: twice or three times, each time with another kind of priorities.
 #[test]
 fn fills_and_empties_all_chains(rt: HostRuntime) -> Result<(), Fail> {
     let mut book = made(&rt, 64, 8, 0);
     let mut past = Past::new(rt.alloc(), 64, 8, 0);
     let mut number = 1;
     let mut most = 0;
-    for i in 0..16_000 {
+    for i in 0..8_000 {
         number = next_number(number);
         let part = part_of(i);
         let step = step_of(part, i, &past, number)?;

@@ -25,7 +25,8 @@ use Rattle.hoare_law.specs.Admissions.{admissions}
 use Rattle.ticket_door.specs.Rule.{Initial, WordsFit, token_in, IsKept, next_at, serving_at, bell_at, taken, bell_value}
 use Rattle.ticket_door.specs.Steps.{takes_bell, TakesBellAt}
 use Rattle.hoare_law.proofs.Admissions.{admissions-other}
-use Rattle.ticket_door.proofs.Turns.{for_next, rings_due, bell_else, bell_due, no_admit, held_busy, due_busy}
+use Rattle.ticket_door.proofs.Turns.{for_next, rings_due, bell_value_else, bell_value_due, no_admit, held_busy}
+use Rattle.ticket_door.proofs.Turns.{due_busy}
 use Rattle.ticket_door.proofs.Turns.{due_inside, still_outside}
 
 module _ {D : Type 0} (first n : ℕ) where
@@ -88,8 +89,8 @@ module _ {D : Type 0} (first n : ℕ) where
         (λ _. 0) (λ r. r ≡ 1) (λ log. Unit {0})
         (λ r. ℕ_discrete r 1)
         (λ log tokens ws small t miss. let b = t.bells k small in
-        sym (b ∙ bell_else (turn log.events) k (λ one. miss (b ∙ one))))
-        (λ log tokens ws stands places small same has t hit. let is = bell_due (turn log.events) k
+        sym (b ∙ bell_value_else (turn log.events) k (λ one. miss (b ∙ one))))
+        (λ log tokens ws stands places small same has t hit. let is = bell_value_due (turn log.events) k
         (sym (t.bells k small) ∙ hit) in let r = rings_due k (turn log.events) is in
         let e = frame.enters_due rest ready k log f stands same is in
         let h : History D = with_event log (due k f (latest_data log)) in record {

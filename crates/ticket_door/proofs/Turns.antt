@@ -69,18 +69,18 @@ bell_due : (j k : ℕ) → one j k ≡ 1 → j ≡ k
 bell_due j k e = dite (ℕ_discrete j k) (λ same. same) (λ ne. absurd (omega (arith, one_apart j k (ne_eqb j k ne), e)))
 
 -- a bell that isn't rung is silent
-pub bell_else : (t : Turn) (k : ℕ) → bell_value t k ≢ 1 → bell_value t k ≡ 0
-bell_else Free k n = refl
-bell_else (Held j) k n = refl
-bell_else (Owed j c) k n = bell_else j k n
-bell_else (Return j) k n = bell_else j k n
+pub bell_value_else : (t : Turn) (k : ℕ) → bell_value t k ≢ 1 → bell_value t k ≡ 0
+bell_value_else Free k n = refl
+bell_value_else (Held j) k n = refl
+bell_value_else (Owed j c) k n = bell_else j k n
+bell_value_else (Return j) k n = bell_else j k n
 
 -- a place whose bell is rung is due
-pub bell_due : (t : Turn) (k : ℕ) → bell_value t k ≡ 1 → IsDue k t
-bell_due Free k e = absurd (omega (arith, e))
-bell_due (Held j) k e = absurd (omega (arith, e))
-bell_due (Owed j c) k e = owed c (ap (λ i. Owed i c) (bell_due j k e))
-bell_due (Return j) k e = returning (ap (λ i. Return i) (bell_due j k e))
+pub bell_value_due : (t : Turn) (k : ℕ) → bell_value t k ≡ 1 → IsDue k t
+bell_value_due Free k e = absurd (omega (arith, e))
+bell_value_due (Held j) k e = absurd (omega (arith, e))
+bell_value_due (Owed j c) k e = owed c (ap (λ i. Owed i c) (bell_due j k e))
+bell_value_due (Return j) k e = returning (ap (λ i. Return i) (bell_due j k e))
 
 pub due_busy : (k : ℕ) (t : Turn) → IsDue k t → t ≢ Free
 due_busy k t (owed c is) e = let no : Owed k c ≡ Free = sym is ∙ e in cc

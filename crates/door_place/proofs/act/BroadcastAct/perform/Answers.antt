@@ -25,7 +25,7 @@ returns-clause-made c =
       omega (arith, c.if-condition-limits.false, most),
       omega
           (arith, c.if-condition-limits-2.false, hoare),
-    ) e.place e.data e.front e.told
+    ) e.place e.data e.front e.answer
 
 pub returns-clause-front : goal.returns-clause-front
 returns-clause-front c =

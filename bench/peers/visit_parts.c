@@ -9,8 +9,8 @@
 
 typedef volatile uint64_t cell;
 
-struct parcel { cell value; uint64_t book[6]; cell waiting_signallers; uint64_t pad; cell turn[3]; };
-struct slot { cell full; struct parcel *volatile parcel; };
+struct guarded { cell value; uint64_t book[6]; cell waiting_signallers; uint64_t pad; cell turn[3]; };
+struct slot { cell full; struct guarded *volatile guarded; };
 struct door { cell *volatile word; struct slot *volatile slot; };
 
 static inline int admitted(cell *word) {
@@ -43,46 +43,46 @@ enum { TURNS = 3000000, ROUNDS = 9 };
         printf("%-40s %.1f ns\n", name, least);                 \
     } while (0)
 
-static inline struct parcel *take(struct slot *slot) {
-    struct parcel *parcel = slot->parcel;
+static inline struct guarded *take(struct slot *slot) {
+    struct guarded *guarded = slot->guarded;
     if (!slot->full) abort();
     slot->full = 0;
-    slot->parcel = NULL;
-    return parcel;
+    slot->guarded = NULL;
+    return guarded;
 }
 
-static inline void give(struct slot *slot, struct parcel *parcel) {
+static inline void give(struct slot *slot, struct guarded *guarded) {
     if (slot->full) abort();
     slot->full = 1;
-    slot->parcel = parcel;
+    slot->guarded = guarded;
 }
 
-static inline void note(struct parcel *parcel, uint64_t kind, uint64_t place) {
-    parcel->turn[0] = kind;
-    parcel->turn[1] = place;
-    parcel->turn[2] = 0;
+static inline void note(struct guarded *guarded, uint64_t kind, uint64_t place) {
+    guarded->turn[0] = kind;
+    guarded->turn[1] = place;
+    guarded->turn[2] = 0;
 }
 
 int main(void) {
     struct door *door = aligned_alloc(64, 64);
-    struct parcel *parcel = aligned_alloc(64, 128);
+    struct guarded *guarded = aligned_alloc(64, 128);
     door->word = aligned_alloc(64, 64);
     door->slot = aligned_alloc(64, 64);
     *door->word = 0;
-    parcel->value = 0;
-    parcel->waiting_signallers = 0;
+    guarded->value = 0;
+    guarded->waiting_signallers = 0;
     door->slot->full = 0;
-    give(door->slot, parcel);
+    give(door->slot, guarded);
     static cell word __attribute__((aligned(64))), value __attribute__((aligned(64)));
 
     LEAST("a word, an addition", if (!admitted(&word)) abort(); value++; hand_on(&word, 0););
     LEAST("+ the word behind a pointer", if (!admitted(door->word)) abort(); value++; hand_on(door->word, 0););
-    LEAST("+ the data behind slot and box", if (!admitted(door->word)) abort(); door->slot->parcel->value++; hand_on(door->word, 0););
-    LEAST("+ the signallers asked", if (!admitted(door->word)) abort(); struct parcel *p = door->slot->parcel; p->value++;
+    LEAST("+ the data behind slot and box", if (!admitted(door->word)) abort(); door->slot->guarded->value++; hand_on(door->word, 0););
+    LEAST("+ the signallers asked", if (!admitted(door->word)) abort(); struct guarded *p = door->slot->guarded; p->value++;
           hand_on(door->word, p->waiting_signallers ? 2 : 0););
-    LEAST("+ the parcel taken and given back", if (!admitted(door->word)) abort(); struct parcel *p = take(door->slot); p->value++;
+    LEAST("+ the guarded box taken and given back", if (!admitted(door->word)) abort(); struct guarded *p = take(door->slot); p->value++;
           uint64_t next = p->waiting_signallers ? 2 : 0; give(door->slot, p); hand_on(door->word, next););
-    LEAST("+ the turn noted twice", if (!admitted(door->word)) abort(); struct parcel *p = take(door->slot); note(p, 1, 3); p->value++;
+    LEAST("+ the turn noted twice", if (!admitted(door->word)) abort(); struct guarded *p = take(door->slot); note(p, 1, 3); p->value++;
           uint64_t next = p->waiting_signallers ? 2 : 0; note(p, 0, 0); give(door->slot, p); hand_on(door->word, next););
     return 0;
 }

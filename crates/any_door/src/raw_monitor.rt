@@ -6,17 +6,17 @@ ghost use Rattle.wait_book.specs.Contents.{IsPlaceBelow};
 ghost use Rattle.door_frame.specs.Steps.{MayGive, MayNote};
 ghost use Rattle.door_frame.specs.Places.{Closes, Entered, HasPlace, IsOut, IsWoken};
 ghost use Rattle.door_frame.specs.Seats.{GoesOut, StaysIn};
-ghost use Rattle.door_frame.specs.Departures.{event_of};
-ghost use Rattle.door_frame.specs.Notices.{event_of_notice};
+ghost use Rattle.door_frame.specs.Releases.{event_of};
+ghost use Rattle.door_frame.specs.Notifications.{event_of_notification};
 ghost use Rattle.any_door.specs.Doors.{id_of};
 
 use crate::door::RawAnyDoor;
-use door_frame::departure::Departure;
-use door_frame::notice::Notice;
-use door_frame::parcel::Parcel;
+use door_frame::guarded::GuardedBox;
+use door_frame::notification::Notification;
 use door_frame::place::{Inside, Outside};
 use door_frame::polling::Polling;
 use door_frame::raw_monitor::{RawMonitor, Runs, Wakes};
+use door_frame::release::Release;
 use door_frame::seat_steps::DoorSeat;
 use door_frame::waking::Woken;
 use hoare_law::data::MonitorData;
@@ -40,7 +40,7 @@ impl<D: MonitorData> RawMonitor<D> for RawAnyDoor<D> {
     }
 
     #[inline]
-    fn try_admit(&self, seat: &mut DoorSeat<D>, place: usize) -> Option<Parcel<D>> {
+    fn try_admit(&self, seat: &mut DoorSeat<D>, place: usize) -> Option<GuardedBox<D>> {
         match self {
             RawAnyDoor::Baton(door) => door.try_admit(seat, place),
             RawAnyDoor::Ticket(door) => door.try_admit(seat, place),
@@ -56,7 +56,7 @@ impl<D: MonitorData> RawMonitor<D> for RawAnyDoor<D> {
     }
 
     #[inline]
-    fn try_claim(&self, seat: &mut DoorSeat<D>, place: usize) -> Option<Parcel<D>> {
+    fn try_claim(&self, seat: &mut DoorSeat<D>, place: usize) -> Option<GuardedBox<D>> {
         match self {
             RawAnyDoor::Baton(door) => door.try_claim(seat, place),
             RawAnyDoor::Ticket(door) => door.try_claim(seat, place),
@@ -67,38 +67,44 @@ impl<D: MonitorData> RawMonitor<D> for RawAnyDoor<D> {
     fn release(
         &self,
         seat: &mut DoorSeat<D>,
-        parcel: Parcel<D>,
+        guarded: GuardedBox<D>,
         place: usize,
-        departure: Departure,
+        how: Release,
         next: Next,
     ) -> Option<Woken>
         requires table { seat.old.table_id ≡ (id_of self.now).table }
         requires next { IsPlaceBelow (id_of self.now).places next }
-        requires event { MayGive D.rest D.ready (event_of place departure next) place
-            seat.old.me parcel next }
+        requires event { MayGive D.rest D.ready (event_of place how next) place
+            seat.old.me guarded next }
         ensures table { seat.new.table_id ≡ seat.old.table_id }
-        ensures away { GoesOut place (event_of place departure next)
-            seat.old.me parcel.state seat.new.me }
+        ensures away { GoesOut place (event_of place how next)
+            seat.old.me guarded.state seat.new.me }
         ensures woken { IsWoken (id_of self.now) next result }
     {
         match self {
-            RawAnyDoor::Baton(door) => door.release(seat, parcel, place, departure, next),
-            RawAnyDoor::Ticket(door) => door.release(seat, parcel, place, departure, next),
+            RawAnyDoor::Baton(door) => door.release(seat, guarded, place, how, next),
+            RawAnyDoor::Ticket(door) => door.release(seat, guarded, place, how, next),
         }
     }
 
     #[inline]
-    fn note(&self, seat: &mut DoorSeat<D>, parcel: &Parcel<D>, place: usize, notice: Notice)
+    fn note(
+        &self,
+        seat: &mut DoorSeat<D>,
+        guarded: &GuardedBox<D>,
+        place: usize,
+        notification: Notification,
+    )
         requires table { seat.old.table_id ≡ (id_of self.now).table }
-        requires event { MayNote D.rest D.ready (event_of_notice place notice parcel.now.state)
+        requires event { MayNote D.rest D.ready (event_of_notification place notification guarded.now.state)
             place seat.old.me }
         ensures table { seat.new.table_id ≡ seat.old.table_id }
-        ensures stays { StaysIn place (event_of_notice place notice parcel.now.state)
+        ensures stays { StaysIn place (event_of_notification place notification guarded.now.state)
             seat.old.me seat.new.me }
     {
         match self {
-            RawAnyDoor::Baton(door) => door.note(seat, parcel, place, notice),
-            RawAnyDoor::Ticket(door) => door.note(seat, parcel, place, notice),
+            RawAnyDoor::Baton(door) => door.note(seat, guarded, place, notification),
+            RawAnyDoor::Ticket(door) => door.note(seat, guarded, place, notification),
         }
     }
 }

@@ -18,7 +18,7 @@ use Rattle.hoare_law.specs.Turns.{turn, outside, urgent, IsGivenUp}
 use Rattle.hoare_law.proofs.Entering.{outside-same}
 use Rattle.wait_book.specs.declared.steps.Next.{Next}
 use Rattle.wait_book.specs.Contents.{IsOf}
-use Rattle.door_frame.specs.declared.parcel.Guarded.{Guarded}
+use Rattle.door_frame.specs.declared.guarded.Guarded.{Guarded}
 use Rattle.door_frame.specs.declared.view.SeatView.TheVariants.{Unopened, Opening}
 use Rattle.door_frame.specs.Rule.{Cells, Tokens, TableInvariant}
 use Rattle.door_frame.specs.Steps.{SeatState, Gives, Notes, begins, opens, gives_as, notes_as, due}

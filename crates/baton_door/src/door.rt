@@ -11,10 +11,10 @@ use crate::parked::Parked;
 use crate::rule::{DoorKey, DoorTable};
 use crate::word::{DOOR, FREE, HELD};
 use crossbeam_utils::CachePadded;
-use door_frame::parcel::Parcel;
+use door_frame::guarded::GuardedBox;
 use door_frame::running::RunningMonitor;
 use door_frame::seat_steps::{Begin, DoorSeat, Open, PickedKinds};
-use door_frame::slot::put_parcel;
+use door_frame::slot::put_guarded;
 use door_frame::waking::Waker;
 use hoare_law::data::MonitorData;
 use std::marker::Model;
@@ -69,30 +69,30 @@ impl<D: MonitorData> Model for RawBatonDoor<D> {
 }
 
 /// Opens the door of `table` by a step with `seat`, the first seat of the table: changes the state word from `FREE` to
-/// `HELD`, which gives `seat` access to the slot, still empty; puts `parcel` into the slot; and stores `FREE`. `seat`
+/// `HELD`, which gives `seat` access to the slot, still empty; puts `guarded` into the slot; and stores `FREE`. `seat`
 /// then stands for all places together: `deal` makes the places from it. In the proofs the history of each place begins
 /// with the opening data.
 pub(crate) fn open<D: MonitorData, K: DoorKey<D>, J: PickedKinds>(
     table: &DoorTable<D, K>,
     seat: &mut DoorSeat<D>,
-    parcel: Parcel<D>,
+    guarded: GuardedBox<D>,
 )
     requires table { (seat.old.table_id ≡ table.now.shared.table_id)
         × (0 < table.now.shared.table_id.words) }
     requires kinds { J.kinds ≡ K.kinds table.now.shared.key }
     requires seat { seat.old.me ≡ (Unopened (K.places table.now.shared.key), []) }
-    requires rest { D.rest parcel.state nobody }
-    requires book { IsOf parcel.book (opened (sizes_at J.kinds (K.places table.now.shared.key)) tt) }
+    requires rest { D.rest guarded.state nobody }
+    requires book { IsOf guarded.book (opened (sizes_at J.kinds (K.places table.now.shared.key)) tt) }
     ensures table { seat.new.table_id ≡ seat.old.table_id }
     ensures opened { seat.new.me ≡ (
       Places (all_know 0 (K.places table.now.shared.key)
-          (opened (sizes_at J.kinds (K.places table.now.shared.key)) parcel.state)),
+          (opened (sizes_at J.kinds (K.places table.now.shared.key)) guarded.state)),
       [],
     ) }
 {
     table
         .shared
         .compare_exchange::<Begin>(seat, DOOR, FREE, HELD);
-    put_parcel(table, seat, parcel);
+    put_guarded(table, seat, guarded);
     table.shared.store::<Open<J>>(seat, DOOR, FREE);
 }

@@ -1,5 +1,5 @@
-//! How the monitor of a `Door` is released. The releasing thread puts the parcel into the slot, then writes the state
-//! word. If a place resumes, the thread then wakes it.
+//! How the monitor of a `Door` is released. The releasing thread puts the guarded box into the slot, then writes the
+//! state word. If a place resumes, the thread then wakes it.
 //!
 //! `door_frame::parking` argues for any door why no wake-up is lost. What it calls the word of a place is here the
 //! state word, which all places share.
@@ -8,20 +8,20 @@ ghost use Rattle.wait_book.specs.Contents.{IsPlaceBelow};
 ghost use Rattle.wait_book.specs.declared.steps.Next.TheVariants.{For};
 ghost use Rattle.door_frame.specs.Steps.{MayGive};
 ghost use Rattle.door_frame.specs.Places.{IsWoken, sleeper_at};
-ghost use Rattle.door_frame.specs.Seats.{GoesOut, HasReleased};
+ghost use Rattle.door_frame.specs.Seats.{GoesOut};
 
 use crate::door::RawBatonDoor;
 use crate::leaving::{handed, is_leaving, is_to_help, is_wait};
 use crate::table_steps::put_and_write;
-use door_frame::departure::Departure;
-use door_frame::parcel::Parcel;
+use door_frame::guarded::GuardedBox;
+use door_frame::release::Release;
 use door_frame::seat_steps::{DoorSeat, PickedEvent};
 use door_frame::waking::Woken;
 use hoare_law::data::MonitorData;
 use wait_book::steps::Next;
 
 impl<D: MonitorData> RawBatonDoor<D> {
-    /// Puts `parcel` into the slot, and then stores `word_of_next(next)` in the state word. In the proofs the store
+    /// Puts `guarded` into the slot, and then stores `word_of_next(next)` in the state word. In the proofs the store
     /// adds the event `J.event`, which the caller chooses, to the history.
     ///
     /// After the store: if `next` is a place that resumes, wakes that place, and returns a `Woken`, which shows that
@@ -30,70 +30,60 @@ impl<D: MonitorData> RawBatonDoor<D> {
     pub(crate) fn give<J: PickedEvent<D>>(
         &self,
         seat: &mut DoorSeat<D>,
-        parcel: Parcel<D>,
+        guarded: GuardedBox<D>,
         place: usize,
-        departure: Departure,
+        how: Release,
         next: Next,
     ) -> Option<Woken>
         requires table { seat.old.table_id ≡ self.now.table }
         requires next { IsPlaceBelow self.now.places next }
-        requires event { MayGive D.rest D.ready J.event place seat.old.me parcel next }
+        requires event { MayGive D.rest D.ready J.event place seat.old.me guarded next }
         ensures table { seat.new.table_id ≡ seat.old.table_id }
-        ensures away { GoesOut place J.event seat.old.me parcel.state seat.new.me }
+        ensures away { GoesOut place J.event seat.old.me guarded.state seat.new.me }
         ensures woken { IsWoken self.now next result }
     {
         match next {
             Next::For(resumed) => {
-                Some(self.give_to::<J>(seat, parcel, place, is_leaving(departure), resumed))
+                Some(self.give_to::<J>(seat, guarded, place, is_leaving(how), resumed))
             }
             Next::Free | Next::Held(_) => {
-                let since_handed = parcel.held.since_handed;
+                let since_handed = guarded.held.since_handed;
                 put_and_write::<D, usize, J>(
                     &self.table,
                     seat,
-                    parcel,
+                    guarded,
                     place,
                     since_handed.wrapping_add(1),
                     next,
                 );
-                if is_to_help(since_handed, departure) {
-                    self.help_others(since_handed, is_wait(departure));
+                if is_to_help(since_handed, how) {
+                    self.help_others(since_handed, is_wait(how));
                 }
                 None
             }
         }
     }
 
-    /// Hands the monitor off to the place `resumed`, with `parcel` back in the slot, and wakes that place. `leaves` is
+    /// Hands the monitor off to the place `resumed`, with `guarded` back in the slot, and wakes that place. `leaves` is
     /// true if the place that hands off is outside afterwards: it leaves or passes, and doesn't wait or signal.
     #[inline(never)] // apart, so that a plain leave stays small
     fn give_to<J: PickedEvent<D>>(
         &self,
         seat: &mut DoorSeat<D>,
-        parcel: Parcel<D>,
+        guarded: GuardedBox<D>,
         place: usize,
         leaves: bool,
         resumed: usize,
     ) -> Woken
         requires table { seat.old.table_id ≡ self.now.table }
         requires below { resumed < self.now.places }
-        requires event { MayGive D.rest D.ready J.event place seat.old.me parcel (For resumed) }
+        requires event { MayGive D.rest D.ready J.event place seat.old.me guarded (For resumed) }
         ensures table { seat.new.table_id ≡ seat.old.table_id }
-        ensures away { GoesOut place J.event seat.old.me parcel.state seat.new.me }
+        ensures away { GoesOut place J.event seat.old.me guarded.state seat.new.me }
         ensures woken { result ≡ sleeper_at self.now resumed }
     {
         let (table, next) = (&self.table, Next::For(resumed));
-        put_and_write::<D, usize, J>(table, seat, parcel, place, handed(leaves), next);
-        self.wake(seat, resumed)
-    }
-
-    /// Unparks `place`: ends its park, or lets its next park return at once. The caller has released the monitor.
-    /// Returns a `Woken`, which shows that the place was woken.
-    fn wake(&self, seat: &DoorSeat<D>, place: usize) -> Woken
-        requires below { place < self.now.places }
-        requires given_up { HasReleased seat.now.me }
-        ensures { result ≡ sleeper_at self.now place }
-    {
-        self.wakers[place].wake(seat)
+        put_and_write::<D, usize, J>(table, seat, guarded, place, handed(leaves), next);
+        self.wakers[resumed].wake(seat)
     }
 }

@@ -16,8 +16,8 @@
 //! hand-off. So W, after it has freed the monitor, polls the state word for a short time. If it sees that another
 //! thread has entered (not `FREE`), W spins for a while before its call returns.
 use crate::door::RawBatonDoor;
-use door_frame::departure::Departure;
 use door_frame::polling::pause;
+use door_frame::release::Release;
 use hoare_law::data::MonitorData;
 use std::sync::atomic::Ordering;
 
@@ -31,11 +31,11 @@ const VISITS_IN_A_ROW: u32 = 256;
 /// docs/MEASURES.md took 2.4 times as long in a door without back-offs, and 1.4 times with 64 hints.
 const BACK_OFF: u32 = 128;
 
-/// What a thread writes to the parcel's `since_handed` when it hands off the monitor and leaves. Each release without a
-/// hand-off adds 1 to it.
+/// What a thread writes to `since_handed` in the guarded box when it hands off the monitor and leaves. Each release
+/// without a hand-off adds 1 to it.
 const AFTER_LEAVE: u32 = 0;
 
-/// What a thread writes to the parcel's `since_handed` when it hands off the monitor, and waits or signals. This
+/// What a thread writes to `since_handed` in the guarded box when it hands off the monitor, and waits or signals. This
 /// number and `AFTER_LEAVE` are multiples of `VISITS_IN_A_ROW`, so that `is_to_help` returns true for both. After
 /// 2^31 releases without a hand-off `since_handed` has counted from one of them to the other. The next leaving thread
 /// then acts as if it was handed the monitor: it may wake a thread or back off without need.
@@ -43,7 +43,7 @@ const AFTER_WAIT_OR_SIGNAL: u32 = 1 << 31;
 
 impl<D: MonitorData> RawBatonDoor<D> {
     /// Helps entering threads, after the caller has freed the monitor. `since_handed` is what the caller found in the
-    /// parcel, before this release added 1. `waits` is true if the caller waits now.
+    /// guarded box, before this release added 1. `waits` is true if the caller waits now.
     ///
     /// - If the caller was handed the monitor or waits, wakes a parked thread, if there is one.
     /// - If neither, and threads are parked and a wake-up is unanswered, makes the next thread to enter yield.
@@ -72,11 +72,11 @@ impl<D: MonitorData> RawBatonDoor<D> {
     }
 }
 
-/// Returns true if a thread that frees the monitor by `departure` is to call `help_others`: it was handed the monitor,
+/// Returns true if a thread that frees the monitor by `how` is to call `help_others`: it was handed the monitor,
 /// is about to wait, or `since_handed` is a multiple of `VISITS_IN_A_ROW`.
 #[inline]
-pub(crate) fn is_to_help(since_handed: u32, departure: Departure) -> bool {
-    since_handed % VISITS_IN_A_ROW == 0 || is_wait(departure)
+pub(crate) fn is_to_help(since_handed: u32, how: Release) -> bool {
+    since_handed % VISITS_IN_A_ROW == 0 || is_wait(how)
 }
 
 /// Returns what a hand-off writes to `since_handed`. `leaves` is true if the thread that hands off is outside
@@ -89,20 +89,20 @@ pub(crate) fn handed(leaves: bool) -> u32 {
     }
 }
 
-/// Returns true if `departure` waits on a condition.
+/// Returns true if `how` waits on a condition.
 #[inline]
-pub(crate) fn is_wait(departure: Departure) -> bool {
-    match departure {
-        Departure::Wait(_, _) => true,
-        Departure::Signal(_) | Departure::Pass(_) | Departure::Leave => false,
+pub(crate) fn is_wait(how: Release) -> bool {
+    match how {
+        Release::Wait(_, _) => true,
+        Release::Signal(_) | Release::Pass(_) | Release::Leave => false,
     }
 }
 
-/// Returns true if the place is outside after `departure`.
+/// Returns true if the place is outside after `how`.
 #[inline]
-pub(crate) fn is_leaving(departure: Departure) -> bool {
-    match departure {
-        Departure::Pass(_) | Departure::Leave => true,
-        Departure::Wait(_, _) | Departure::Signal(_) => false,
+pub(crate) fn is_leaving(how: Release) -> bool {
+    match how {
+        Release::Pass(_) | Release::Leave => true,
+        Release::Wait(_, _) | Release::Signal(_) => false,
     }
 }

@@ -15,7 +15,7 @@ use crate::word::{DOOR, FREE};
 use crossbeam_utils::Backoff;
 use door_frame::calls::enter_with;
 use door_frame::seat_steps::DoorSeat;
-use door_frame::slot::take_parcel;
+use door_frame::slot::take_guarded;
 use hoare_law::data::MonitorData;
 use std::sync::Wait;
 use std::sync::atomic::Ordering;
@@ -99,8 +99,8 @@ impl<D: MonitorData> RawBatonDoor<D> {
     {
         let (mut seat, place, sleeper) = out.into_parts();
         self.keep_trying(rt, &mut seat);
-        let parcel = take_parcel(&self.table, &mut seat);
-        enter_with(seat, place, sleeper, parcel)
+        let guarded = take_guarded(&self.table, &mut seat);
+        enter_with(seat, place, sleeper, guarded)
     }
 
     /// Parks, unless the monitor is free by now.

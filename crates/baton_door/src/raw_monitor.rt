@@ -7,8 +7,8 @@ ghost use Rattle.door_frame.specs.Making.{AreParts, IsMadeOf};
 ghost use Rattle.door_frame.specs.Steps.{MayGive, MayNote};
 ghost use Rattle.door_frame.specs.Places.{Closes, Entered, HasPlace, IsOut, IsWoken};
 ghost use Rattle.door_frame.specs.Seats.{GoesOut, StaysIn};
-ghost use Rattle.door_frame.specs.Departures.{event_of};
-ghost use Rattle.door_frame.specs.Notices.{event_of_notice};
+ghost use Rattle.door_frame.specs.Releases.{event_of};
+ghost use Rattle.door_frame.specs.Notifications.{event_of_notification};
 
 use crate::door::{RawBatonDoor, open};
 use crate::parked::Parked;
@@ -17,12 +17,12 @@ use crate::rule::BatonWords;
 use crate::table_steps;
 use crate::word::{DOOR, FREE, owed};
 use door_frame::calls;
-use door_frame::departure::Departure;
+use door_frame::guarded::GuardedBox;
 use door_frame::making::{Parts, closed, deal, vacant};
-use door_frame::notice::Notice;
-use door_frame::parcel::Parcel;
+use door_frame::notification::Notification;
 use door_frame::polling::{BATON_POLLING, Polling};
 use door_frame::raw_monitor::{Opens, RawMonitor, Runs, Wakes};
+use door_frame::release::Release;
 use door_frame::seat_steps::{DoorSeat, KindsOf};
 use door_frame::waking::Woken;
 use hoare_law::data::MonitorData;
@@ -47,7 +47,7 @@ impl<D: MonitorData> RawMonitor<D> for RawBatonDoor<D> {
 
     /// Tries once to enter. Returns `None` if the compare-exchange doesn't find `FREE`.
     #[inline]
-    fn try_admit(&self, seat: &mut DoorSeat<D>, place: usize) -> Option<Parcel<D>> {
+    fn try_admit(&self, seat: &mut DoorSeat<D>, place: usize) -> Option<GuardedBox<D>> {
         table_steps::try_admit(&self.table, seat, place)
     }
 
@@ -59,7 +59,7 @@ impl<D: MonitorData> RawMonitor<D> for RawBatonDoor<D> {
     /// Takes the monitor for a place that waited or signalled, if it is owed to that place. Returns `None` if the
     /// compare-exchange finds that it isn't.
     #[inline]
-    fn try_claim(&self, seat: &mut DoorSeat<D>, place: usize) -> Option<Parcel<D>> {
+    fn try_claim(&self, seat: &mut DoorSeat<D>, place: usize) -> Option<GuardedBox<D>> {
         table_steps::try_claim(&self.table, seat, place)
     }
 
@@ -67,33 +67,39 @@ impl<D: MonitorData> RawMonitor<D> for RawBatonDoor<D> {
     fn release(
         &self,
         seat: &mut DoorSeat<D>,
-        parcel: Parcel<D>,
+        guarded: GuardedBox<D>,
         place: usize,
-        departure: Departure,
+        how: Release,
         next: Next,
     ) -> Option<Woken>
         requires table { seat.old.table_id ≡ self.now.table }
         requires next { IsPlaceBelow self.now.places next }
-        requires event { MayGive D.rest D.ready (event_of place departure next) place
-            seat.old.me parcel next }
+        requires event { MayGive D.rest D.ready (event_of place how next) place
+            seat.old.me guarded next }
         ensures table { seat.new.table_id ≡ seat.old.table_id }
-        ensures away { GoesOut place (event_of place departure next)
-            seat.old.me parcel.state seat.new.me }
+        ensures away { GoesOut place (event_of place how next)
+            seat.old.me guarded.state seat.new.me }
         ensures woken { IsWoken self.now next result }
     {
-        self.give::<Brand>(seat, parcel, place, departure, next)
+        self.give::<Brand>(seat, guarded, place, how, next)
     }
 
     #[inline]
-    fn note(&self, seat: &mut DoorSeat<D>, parcel: &Parcel<D>, place: usize, notice: Notice)
+    fn note(
+        &self,
+        seat: &mut DoorSeat<D>,
+        guarded: &GuardedBox<D>,
+        place: usize,
+        notification: Notification,
+    )
         requires table { seat.old.table_id ≡ self.now.table }
-        requires event { MayNote D.rest D.ready (event_of_notice place notice parcel.now.state)
+        requires event { MayNote D.rest D.ready (event_of_notification place notification guarded.now.state)
             place seat.old.me }
         ensures table { seat.new.table_id ≡ seat.old.table_id }
-        ensures stays { StaysIn place (event_of_notice place notice parcel.now.state)
+        ensures stays { StaysIn place (event_of_notification place notification guarded.now.state)
             seat.old.me seat.new.me }
     {
-        table_steps::tell::<D, usize, Brand>(&self.table, seat, parcel, place, notice);
+        table_steps::tell::<D, usize, Brand>(&self.table, seat, guarded, place, notification);
     }
 }
 
@@ -157,10 +163,10 @@ impl<D: MonitorData> Opens<D> for RawBatonDoor<D> {
             wakers,
             outs,
         } = parts;
-        let (table, mut seat, parcel) = vacant::<D, usize, BatonWords>(
+        let (table, mut seat, guarded) = vacant::<D, usize, BatonWords>(
             alloc, state, book, &[FREE; 8], &places,
         )?;
-        open::<D, usize, KindsOf<D>>(&table, &mut seat, parcel);
+        open::<D, usize, KindsOf<D>>(&table, &mut seat, guarded);
         let outs = deal(&table, seat, sleepers, outs, places);
         let raw_monitor = RawBatonDoor {
             table,

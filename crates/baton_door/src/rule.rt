@@ -3,7 +3,7 @@ ghost use Rattle.baton_door.specs.Rule.{Initial, WordsFit};
 ghost use Rattle.baton_door.specs.Steps.{admits, claims};
 
 use atomic_table::Play;
-use door_frame::parcel::Parcel;
+use door_frame::guarded::GuardedBox;
 use door_frame::rule;
 use door_frame::rule::Words;
 use door_frame::view::SeatView;
@@ -61,13 +61,13 @@ pub(crate) type DoorTable<D, K = usize> = rule::DoorTable<D, K, BatonWords>;
 /// The step by which a place enters if the state word is `FREE`.
 pub(crate) struct Admit;
 
-impl<D: MonitorData> Play<Option<Parcel<D>>, SeatView<D>> for Admit {
+impl<D: MonitorData> Play<Option<GuardedBox<D>>, SeatView<D>> for Admit {
     ghost then = { admits D.rest D.ready };
 }
 
 /// The step by which a place that waited or signalled gets inside again, if the monitor is owed to it.
 pub(crate) struct Claim;
 
-impl<D: MonitorData> Play<Option<Parcel<D>>, SeatView<D>> for Claim {
+impl<D: MonitorData> Play<Option<GuardedBox<D>>, SeatView<D>> for Claim {
     ghost then = { claims D.rest D.ready };
 }

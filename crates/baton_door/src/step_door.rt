@@ -11,20 +11,20 @@ ghost use Rattle.wait_book.specs.Contents.{IsPlaceBelow, make_refusal};
 ghost use Rattle.door_frame.specs.Places.{Closes, HasPlace, IsOut, places_from};
 ghost use Rattle.door_frame.specs.Steps.{MayGive, MayNote};
 ghost use Rattle.door_frame.specs.Seats.{GoesOut, StaysIn};
-ghost use Rattle.door_frame.specs.Departures.{event_of};
-ghost use Rattle.door_frame.specs.Notices.{event_of_notice};
+ghost use Rattle.door_frame.specs.Releases.{event_of};
+ghost use Rattle.door_frame.specs.Notifications.{event_of_notification};
 
 use crate::door::open;
 use crate::rule::{BatonWords, DoorTable};
 use crate::table_steps;
 use crate::word::{DOOR, FREE, owed};
-use door_frame::departure::Departure;
+use door_frame::guarded::GuardedBox;
 use door_frame::making::{closed_as, deal_by_caller, vacant};
-use door_frame::notice::Notice;
-use door_frame::parcel::Parcel;
+use door_frame::notification::Notification;
 use door_frame::place::Outside;
 use door_frame::polling::{BATON_POLLING, Polling};
 use door_frame::raw_monitor::RawMonitor;
+use door_frame::release::Release;
 use door_frame::seat_steps::{DoorSeat, PickedEvent};
 use door_frame::waking::ByCaller;
 use hoare_law::data::MonitorData;
@@ -89,13 +89,13 @@ impl<D: MonitorData> StepDoor<D> {
         let Ok(outs) = Vec::with_capacity(alloc, sizes.places) else {
             return Err((state, MakeRefused::Memory));
         };
-        let (table, mut seat, parcel) = match vacant::<D, Sizes, BatonWords>(
+        let (table, mut seat, guarded) = match vacant::<D, Sizes, BatonWords>(
             alloc, state, book, &[FREE; 8], &sizes,
         ) {
             Ok(made) => made,
             Err(state) => return Err((state, MakeRefused::Memory)),
         };
-        open::<D, Sizes, Brand>(&table, &mut seat, parcel);
+        open::<D, Sizes, Brand>(&table, &mut seat, guarded);
         let outs = deal_by_caller(&table, seat, outs, sizes.places);
         Ok((StepDoor { table, sizes }, outs))
     }
@@ -126,24 +126,24 @@ impl<D: MonitorData> StepDoor<D> {
         closed_as::<D, Sizes, BatonWords, ByCaller, (), Brand>(table, (), outs)
     }
 
-    /// Puts `parcel` into the slot, and then stores `word_of_next(next)` in the state word. Only the proofs use
-    /// `departure`: in them the store adds the event `J.event`, which the caller chooses, to the history.
+    /// Puts `guarded` into the slot, and then stores `word_of_next(next)` in the state word. Only the proofs use
+    /// `how`: in them the store adds the event `J.event`, which the caller chooses, to the history.
     #[inline(always)] // as `table_steps::put_and_write` is
     fn give<J: PickedEvent<D>>(
         &self,
         seat: &mut DoorSeat<D>,
-        parcel: Parcel<D>,
+        guarded: GuardedBox<D>,
         place: usize,
-        departure: Departure,
+        how: Release,
         next: Next,
     )
         requires table { seat.old.table_id ≡ self.now.door.table }
         requires next { IsPlaceBelow self.now.door.places next }
-        requires event { MayGive D.rest D.ready J.event place seat.old.me parcel next }
+        requires event { MayGive D.rest D.ready J.event place seat.old.me guarded next }
         ensures table { seat.new.table_id ≡ seat.old.table_id }
-        ensures away { GoesOut place J.event seat.old.me parcel.state seat.new.me }
+        ensures away { GoesOut place J.event seat.old.me guarded.state seat.new.me }
     {
-        table_steps::put_and_write::<D, Sizes, J>(&self.table, seat, parcel, place, 1, next)
+        table_steps::put_and_write::<D, Sizes, J>(&self.table, seat, guarded, place, 1, next)
     }
 }
 
@@ -162,7 +162,7 @@ impl<D: MonitorData> RawMonitor<D> for StepDoor<D> {
     }
 
     #[inline]
-    fn try_admit(&self, seat: &mut DoorSeat<D>, place: usize) -> Option<Parcel<D>> {
+    fn try_admit(&self, seat: &mut DoorSeat<D>, place: usize) -> Option<GuardedBox<D>> {
         table_steps::try_admit(&self.table, seat, place)
     }
 
@@ -172,7 +172,7 @@ impl<D: MonitorData> RawMonitor<D> for StepDoor<D> {
     }
 
     #[inline]
-    fn try_claim(&self, seat: &mut DoorSeat<D>, place: usize) -> Option<Parcel<D>> {
+    fn try_claim(&self, seat: &mut DoorSeat<D>, place: usize) -> Option<GuardedBox<D>> {
         table_steps::try_claim(&self.table, seat, place)
     }
 
@@ -180,32 +180,38 @@ impl<D: MonitorData> RawMonitor<D> for StepDoor<D> {
     fn release(
         &self,
         seat: &mut DoorSeat<D>,
-        parcel: Parcel<D>,
+        guarded: GuardedBox<D>,
         place: usize,
-        departure: Departure,
+        how: Release,
         next: Next,
     )
         requires table { seat.old.table_id ≡ self.now.door.table }
         requires next { IsPlaceBelow self.now.door.places next }
-        requires event { MayGive D.rest D.ready (event_of place departure next) place
-            seat.old.me parcel next }
+        requires event { MayGive D.rest D.ready (event_of place how next) place
+            seat.old.me guarded next }
         ensures table { seat.new.table_id ≡ seat.old.table_id }
-        ensures away { GoesOut place (event_of place departure next)
-            seat.old.me parcel.state seat.new.me }
+        ensures away { GoesOut place (event_of place how next)
+            seat.old.me guarded.state seat.new.me }
         ensures woken { ⊤ }
     {
-        self.give::<Brand>(seat, parcel, place, departure, next)
+        self.give::<Brand>(seat, guarded, place, how, next)
     }
 
     #[inline]
-    fn note(&self, seat: &mut DoorSeat<D>, parcel: &Parcel<D>, place: usize, notice: Notice)
+    fn note(
+        &self,
+        seat: &mut DoorSeat<D>,
+        guarded: &GuardedBox<D>,
+        place: usize,
+        notification: Notification,
+    )
         requires table { seat.old.table_id ≡ self.now.door.table }
-        requires event { MayNote D.rest D.ready (event_of_notice place notice parcel.now.state)
+        requires event { MayNote D.rest D.ready (event_of_notification place notification guarded.now.state)
             place seat.old.me }
         ensures table { seat.new.table_id ≡ seat.old.table_id }
-        ensures stays { StaysIn place (event_of_notice place notice parcel.now.state)
+        ensures stays { StaysIn place (event_of_notification place notification guarded.now.state)
             seat.old.me seat.new.me }
     {
-        table_steps::tell::<D, Sizes, Brand>(&self.table, seat, parcel, place, notice)
+        table_steps::tell::<D, Sizes, Brand>(&self.table, seat, guarded, place, notification)
     }
 }

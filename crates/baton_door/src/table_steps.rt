@@ -9,10 +9,10 @@ ghost use Rattle.baton_door.specs.Newcomers.{IsOutside, IsAdmitted};
 
 use crate::rule::{Admit, Claim, DoorKey, DoorTable};
 use crate::word::{DOOR, FREE, HELD, owed, word_of_next};
-use door_frame::notice::Notice;
-use door_frame::parcel::Parcel;
-use door_frame::seat_steps::{DoorSeat, Give, Note, PickedEvent, PickedNotice};
-use door_frame::slot::{put_parcel, take_parcel};
+use door_frame::guarded::GuardedBox;
+use door_frame::notification::Notification;
+use door_frame::seat_steps::{DoorSeat, Give, Note, PickedEvent, PickedNotification};
+use door_frame::slot::{put_guarded, take_guarded};
 use hoare_law::data::MonitorData;
 use wait_book::steps::Next;
 
@@ -35,43 +35,43 @@ pub(crate) fn try_in<D: MonitorData, K: DoorKey<D>>(
         == FREE
 }
 
-/// Tries once to enter, and takes the parcel. Returns `None`, with the seat unchanged, if the compare-exchange doesn't
-/// find `FREE`.
+/// Tries once to enter, and takes the guarded box. Returns `None`, with the seat unchanged, if the compare-exchange
+/// doesn't find `FREE`.
 #[inline]
 pub(crate) fn try_admit<D: MonitorData, K: DoorKey<D>>(
     table: &DoorTable<D, K>,
     seat: &mut DoorSeat<D>,
     place: usize,
-) -> Option<Parcel<D>>
+) -> Option<GuardedBox<D>>
     requires table { seat.old.table_id ≡ table.now.shared.table_id }
     requires wide { table.now.shared.table_id.words ≡ 8 }
     requires outside { IsEntering place seat.old.me }
     ensures table { seat.new.table_id ≡ seat.old.table_id }
-    ensures came { IfSome result (λ parcel. EntersWith D.rest D.ready place (λ f. event.Admit place)
-        seat.old.me parcel seat.new.me) }
+    ensures came { IfSome result (λ guarded. EntersWith D.rest D.ready place (λ f. event.Admit place)
+        seat.old.me guarded seat.new.me) }
     ensures same { IfNone result (seat.new.me ≡ seat.old.me) }
 {
     if !try_in(table, seat) {
         return None;
     }
-    Some(take_parcel(table, seat))
+    Some(take_guarded(table, seat))
 }
 
-/// Tries once to get `place`, which waited or signalled, inside again, and takes the parcel. Returns `None`, with the
-/// seat unchanged, if the compare-exchange doesn't find the monitor owed to `place`.
+/// Tries once to get `place`, which waited or signalled, inside again, and takes the guarded box. Returns `None`, with
+/// the seat unchanged, if the compare-exchange doesn't find the monitor owed to `place`.
 #[inline]
 pub(crate) fn try_claim<D: MonitorData, K: DoorKey<D>>(
     table: &DoorTable<D, K>,
     seat: &mut DoorSeat<D>,
     place: usize,
-) -> Option<Parcel<D>>
+) -> Option<GuardedBox<D>>
     requires table { seat.old.table_id ≡ table.now.shared.table_id }
     requires wide { table.now.shared.table_id.words ≡ 8 }
     requires small { place < 64 }
     requires away { (f : History D) × IsEmptyHanded place f seat.old.me }
     ensures table { seat.new.table_id ≡ seat.old.table_id }
-    ensures came { IfSome result (λ parcel. EntersWith D.rest D.ready place (due place)
-        seat.old.me parcel seat.new.me) }
+    ensures came { IfSome result (λ guarded. EntersWith D.rest D.ready place (due place)
+        seat.old.me guarded seat.new.me) }
     ensures same { IfNone result (seat.new.me ≡ seat.old.me) }
 {
     let mine = owed(place);
@@ -80,18 +80,18 @@ pub(crate) fn try_claim<D: MonitorData, K: DoorKey<D>>(
         .compare_exchange::<Claim>(seat, DOOR, mine, HELD)
         == mine
     {
-        return Some(take_parcel(table, seat));
+        return Some(take_guarded(table, seat));
     }
     None
 }
 
-/// Puts `parcel`, with `since_handed` in it, into the slot, and then stores `word_of_next(next)` in the state word. In
+/// Puts `guarded`, with `since_handed` in it, into the slot, and then stores `word_of_next(next)` in the state word. In
 /// the proofs the store adds the event `J.event`, which the caller chooses, to the history.
 #[inline(always)] // if the compiler knows `next`, it computes the word
 pub(crate) fn put_and_write<D: MonitorData, K: DoorKey<D>, J: PickedEvent<D>>(
     table: &DoorTable<D, K>,
     seat: &mut DoorSeat<D>,
-    mut parcel: Parcel<D>,
+    mut guarded: GuardedBox<D>,
     place: usize,
     since_handed: u32,
     next: Next,
@@ -99,27 +99,27 @@ pub(crate) fn put_and_write<D: MonitorData, K: DoorKey<D>, J: PickedEvent<D>>(
     requires table { seat.old.table_id ≡ table.now.shared.table_id }
     requires wide { table.now.shared.table_id.words ≡ 8 }
     requires next { IsPlaceBelow 64 next }
-    requires event { MayGive D.rest D.ready J.event place seat.old.me parcel next }
+    requires event { MayGive D.rest D.ready J.event place seat.old.me guarded next }
     ensures table { seat.new.table_id ≡ seat.old.table_id }
-    ensures away { GoesOut place J.event seat.old.me parcel.state seat.new.me }
+    ensures away { GoesOut place J.event seat.old.me guarded.state seat.new.me }
     ensures behind { HasReleased seat.new.me }
 {
-    parcel.held.since_handed = since_handed;
-    put_parcel(table, seat, parcel);
+    guarded.held.since_handed = since_handed;
+    put_guarded(table, seat, guarded);
     table
         .shared
         .store::<Give<J>>(seat, DOOR, word_of_next(next));
 }
 
-/// Loads the state word once, and ignores the value. Only the proofs use `parcel` and `notice`: in them this load adds
-/// the event `J.event`, which the caller chooses, to the history.
+/// Loads the state word once, and ignores the value. Only the proofs use `guarded` and `notification`: in them this
+/// load adds the event `J.event`, which the caller chooses, to the history.
 #[inline]
-pub(crate) fn tell<D: MonitorData, K: DoorKey<D>, J: PickedNotice<D>>(
+pub(crate) fn tell<D: MonitorData, K: DoorKey<D>, J: PickedNotification<D>>(
     table: &DoorTable<D, K>,
     seat: &mut DoorSeat<D>,
-    parcel: &Parcel<D>,
+    guarded: &GuardedBox<D>,
     place: usize,
-    notice: Notice,
+    notification: Notification,
 )
     requires table { seat.old.table_id ≡ table.now.shared.table_id }
     requires wide { table.now.shared.table_id.words ≡ 8 }

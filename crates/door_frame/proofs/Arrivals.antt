@@ -21,7 +21,7 @@ use Rattle.wait_book.specs.declared.steps.Next.TheVariants.{For}
 use Rattle.wait_book.specs.Contents.{Contents, IsOf, next_of}
 use Rattle.wait_book.specs.Stepping.{settled}
 use Rattle.wait_book.proofs.WithData.{IsOf-claim}
-use Rattle.door_frame.specs.declared.parcel.Guarded.{Guarded}
+use Rattle.door_frame.specs.declared.guarded.Guarded.{Guarded}
 use Rattle.door_frame.specs.Places.{PlaceId, DoorId, Entered, HandsTo, IsBack, IsAway, IsIn, IsOut, IsResumed}
 use Rattle.door_frame.specs.Places.{IsReturned, place_id_at}
 use Rattle.door_frame.specs.Places.{PlaceIn, PlaceOut, place_in}

@@ -14,7 +14,7 @@ use Rattle.hoare_law.specs.Priorities.{nobody}
 use Rattle.hoare_law.specs.Turns.{turn, outside}
 use Rattle.hoare_law.proofs.Ended.{AllOutside, turn-ended, rest-ended}
 use Rattle.hoare_law.proofs.Entering.{outside-same}
-use Rattle.door_frame.specs.declared.parcel.Guarded.{Guarded}
+use Rattle.door_frame.specs.declared.guarded.Guarded.{Guarded}
 use Rattle.door_frame.specs.declared.view.PlaceView.{PlaceView}
 use Rattle.door_frame.specs.declared.view.SeatView.{SeatView}
 use Rattle.door_frame.specs.declared.view.SeatView.TheVariants.{Places}

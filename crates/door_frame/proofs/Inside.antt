@@ -10,16 +10,16 @@ use Rattle.hoare_law.specs.Priorities.{priorities}
 use Rattle.hoare_law.proofs.Waiters.{held-in_range}
 use Rattle.wait_book.specs.Contents.{Contents, IsOf, priorities_on}
 use Rattle.wait_book.proofs.WithData.{turn-history, priorities_on-history}
-use Rattle.door_frame.specs.declared.parcel.ParcelBox.{ParcelBox}
-use Rattle.door_frame.specs.declared.parcel.Guarded.{Guarded}
+use Rattle.door_frame.specs.declared.guarded.BoxContents.{BoxContents}
+use Rattle.door_frame.specs.declared.guarded.Guarded.{Guarded}
 use Rattle.door_frame.specs.Places.{PlaceId, DoorId, PlaceIn, IsIn, place_in, sleeper_at}
 use Rattle.door_frame.specs.Seats.{IsInside}
 use Rattle.door_frame.specs.Steps.{SeatState}
 use Rattle.door_frame.specs.Views.{alone}
-use Rattle.door_frame.proofs.Parcels.{unpacked}
+use Rattle.door_frame.proofs.GuardedBoxes.{unpacked}
 
 module _ {D : Type 0} where
-  -- the place k, with the seat me, front f and the parcel x in hand, is the i of the contract
+  -- the place k, with the seat me, front f and the guarded box x in hand, is the i of the contract
   pub record Holds (rest : Rest D) (ready : Ready D) (kinds : Kinds) (d : DoorId) (i : PlaceIn D) (t : PlaceId) (k : ℕ)
       (f : History D) (me : SeatState D) (x : Guarded D) : Type 0 where
     pub seen : place_in t k f x.state ≡ i
@@ -40,9 +40,9 @@ module _ {D : Type 0} where
         }
 
     -- the same of a place taken apart, once its box is unpacked
-    pub holds_unpacked : {now held : ParcelBox D} {y : Guarded D} → now ≡ held → held.guarded ≡ y
+    pub holds_unpacked : {now held : BoxContents D} {y : Guarded D} → now ≡ held → held.contents ≡ y
         → record { parts : place_in t k f y.state ≡ i; seat : IsInside k f me y.book } → IsIn rest ready kinds d i
-        → Holds rest ready kinds d i t k f me now.guarded
+        → Holds rest ready kinds d i t k f me now.contents
     holds_unpacked found is apart of = holds (unpacked found is) apart.parts apart.seat of
 
     module _ {x : Guarded D} where

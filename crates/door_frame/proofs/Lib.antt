@@ -2,10 +2,10 @@ pub mod Views
 pub mod Steps
 pub mod Seats
 pub mod Inside
-pub mod Departures
+pub mod Releases
 pub mod Arrivals
-pub mod Notices
+pub mod Notifications
 pub mod Close
 pub mod Opened
 pub mod PlacesInOrder
-pub mod Parcels
+pub mod GuardedBoxes

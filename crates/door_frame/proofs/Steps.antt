@@ -32,7 +32,7 @@ use Rattle.hoare_law.proofs.Waiters.{return-in_range}
 use Rattle.hoare_law.proofs.Opening.{turn-opened, Stands-opened}
 use Rattle.wait_book.specs.Contents.{IsOf}
 use Rattle.wait_book.specs.declared.steps.Next.{Next}
-use Rattle.door_frame.specs.declared.parcel.Guarded.{Guarded}
+use Rattle.door_frame.specs.declared.guarded.Guarded.{Guarded}
 use Rattle.door_frame.specs.declared.view.PlaceView.{PlaceView}
 use Rattle.door_frame.specs.declared.view.Token.{Token}
 use Rattle.door_frame.specs.declared.view.SeatView.{SeatView}

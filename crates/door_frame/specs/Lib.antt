@@ -3,6 +3,6 @@ pub mod Places
 pub mod Rule
 pub mod Steps
 pub mod Seats
-pub mod Departures
-pub mod Notices
+pub mod Releases
+pub mod Notifications
 pub mod Making

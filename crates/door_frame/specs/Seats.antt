@@ -7,7 +7,7 @@ use Rattle.hoare_law.specs.Internal.WithoutData.{dataless}
 use Rattle.hoare_law.specs.Lawful.{Rest, Ready}
 use Rattle.hoare_law.specs.Turns.{turn, IsGivenUp, outside}
 use Rattle.wait_book.specs.Contents.{Contents, IsOf}
-use Rattle.door_frame.specs.declared.parcel.Guarded.{Guarded}
+use Rattle.door_frame.specs.declared.guarded.Guarded.{Guarded}
 use Rattle.door_frame.specs.Steps.{SeatState, EnteredBy}
 use Rattle.door_frame.specs.Views.{alone}
 

@@ -13,7 +13,7 @@ use Rattle.hoare_law.specs.Lawful.{Rest, Ready, Owes, Stands}
 use Rattle.hoare_law.specs.Legal.{Allowed}
 use Rattle.hoare_law.specs.Turns.{turn, IsGivenUp}
 use Rattle.wait_book.specs.Contents.{IsOf, next_of}
-use Rattle.door_frame.specs.declared.parcel.Guarded.{Guarded}
+use Rattle.door_frame.specs.declared.guarded.Guarded.{Guarded}
 use Rattle.door_frame.specs.declared.view.Token.{Token}
 use Rattle.door_frame.specs.declared.view.SeatView.{SeatView}
 use Rattle.door_frame.specs.declared.view.SeatView.TheVariants.{Unopened, Opening, Places}

@@ -9,16 +9,16 @@ ghost use Rattle.hoare_law.specs.Priorities.{emptied, joined, priorities, taken}
 ghost use Rattle.hoare_law.specs.declared.turn.Turn.TheVariants as turns;
 ghost use Rattle.hoare_law.specs.Turns.{turn};
 ghost use Rattle.wait_book.specs.Contents.{IsOf, next_of, priorities_on};
-ghost use Rattle.door_frame.specs.Notices.{IsCounted, Noted, after_notice, called_on};
+ghost use Rattle.door_frame.specs.Notifications.{IsCounted, Noted, after_notification, called_on};
 ghost use Rattle.door_frame.specs.Places.{IsOut, IsIn, IsAway, IsBack, Handed, HandsTo, place_id, place_in};
 ghost use Rattle.door_frame.specs.Steps.{EnteredBy, due};
 
-use crate::departure::Departure;
-use crate::notice::Notice;
-use crate::parcel::Parcel;
+use crate::guarded::GuardedBox;
+use crate::notification::Notification;
 use crate::parking::claim;
 use crate::place::{Away, Inside, Outside};
 use crate::raw_monitor::{RawMonitor, Wakes};
+use crate::release::Release;
 use crate::seat_steps::DoorSeat;
 use crate::waking::Parking;
 use hoare_law::data::MonitorData;
@@ -33,17 +33,17 @@ pub fn enter_with<D: MonitorData, S: Parking>(
     seat: DoorSeat<D>,
     place: usize,
     sleeper: S,
-    mut parcel: Parcel<D>,
+    mut guarded: GuardedBox<D>,
 ) -> Inside<D, S>
     requires came { (f : History D)
-        × EnteredBy D.rest D.ready place f (event.Admit place) parcel None seat.me }
+        × EnteredBy D.rest D.ready place f (event.Admit place) guarded None seat.me }
     ensures { (f : History D)
-        (c : EnteredBy D.rest D.ready place f (event.Admit place) parcel None seat.me)
+        (c : EnteredBy D.rest D.ready place f (event.Admit place) guarded None seat.me)
         → result ≡ place_in (place_id seat.table_id (S.at seat.table_id sleeper)) place
-        (with_event c.log (event.Admit place parcel.state)) parcel.state }
+        (with_event c.log (event.Admit place guarded.state)) guarded.state }
 {
-    parcel.held.guarded.book.admit(place);
-    Inside::of_parts(seat, place, sleeper, parcel)
+    guarded.held.contents.book.admit(place);
+    Inside::of_parts(seat, place, sleeper, guarded)
 }
 
 /// Creates a place inside from the parts of a place that just returned from a wait or a signal, and records the return
@@ -53,16 +53,16 @@ fn return_with<D: MonitorData, S: Parking>(
     seat: DoorSeat<D>,
     place: usize,
     sleeper: S,
-    mut parcel: Parcel<D>,
+    mut guarded: GuardedBox<D>,
 ) -> Inside<D, S>
     requires came { (f : History D)
-        × EnteredBy D.rest D.ready place f (due place f) parcel None seat.me }
-    ensures { (f : History D) (c : EnteredBy D.rest D.ready place f (due place f) parcel None seat.me)
+        × EnteredBy D.rest D.ready place f (due place f) guarded None seat.me }
+    ensures { (f : History D) (c : EnteredBy D.rest D.ready place f (due place f) guarded None seat.me)
         → result ≡ place_in (place_id seat.table_id (S.at seat.table_id sleeper)) place
-        (with_event c.log (due place f parcel.state)) parcel.state }
+        (with_event c.log (due place f guarded.state)) guarded.state }
 {
-    parcel.held.guarded.book.claim(place);
-    Inside::of_parts(seat, place, sleeper, parcel)
+    guarded.held.contents.book.claim(place);
+    Inside::of_parts(seat, place, sleeper, guarded)
 }
 
 /// Implements `Monitor::try_enter`: enters if the door admits the place at this moment, else returns the place
@@ -83,7 +83,7 @@ pub fn try_enter<D: MonitorData, T: RawMonitor<D>, S: Parking>(
 {
     let (mut seat, place, sleeper) = out.into_parts();
     match door.try_admit(&mut seat, place) {
-        Some(parcel) => Ok(enter_with(seat, place, sleeper, parcel)),
+        Some(guarded) => Ok(enter_with(seat, place, sleeper, guarded)),
         None => Err(Outside::of_parts(seat, place, sleeper)),
     }
 }
@@ -103,9 +103,9 @@ pub fn leave_to<D: MonitorData, T: RawMonitor<D>, S: Parking>(
         ≡ with_event inside.front (event.Leave inside.place inside.state) }
     ensures next { result.1 ≡ next_of (turn result.0.front.events) }
 {
-    let (mut seat, place, sleeper, mut parcel) = inside.into_parts();
-    let next = parcel.held.guarded.book.leave(place);
-    door.release(&mut seat, parcel, place, Departure::Leave, next);
+    let (mut seat, place, sleeper, mut guarded) = inside.into_parts();
+    let next = guarded.held.contents.book.leave(place);
+    door.release(&mut seat, guarded, place, Release::Leave, next);
     (Outside::of_parts(seat, place, sleeper), next)
 }
 
@@ -144,13 +144,13 @@ pub fn begin_wait<D: MonitorData, T: RawMonitor<D>, S: Parking>(
         ≡ with_event inside.front (event.Wait inside.place condition priority inside.state) }
     ensures next { result.1 ≡ next_of (turn result.0.front.events) }
 {
-    let (mut seat, place, sleeper, mut parcel) = inside.into_parts();
-    let next = parcel.held.guarded.book.wait(place, condition, priority);
+    let (mut seat, place, sleeper, mut guarded) = inside.into_parts();
+    let next = guarded.held.contents.book.wait(place, condition, priority);
     door.release(
         &mut seat,
-        parcel,
+        guarded,
         place,
-        Departure::Wait(condition, priority),
+        Release::Wait(condition, priority),
         next,
     );
     (Away::of_parts(seat, place, sleeper), next)
@@ -181,9 +181,9 @@ pub fn begin_signal<D: MonitorData, T: RawMonitor<D>, S: Parking>(
     if !inside.queue(condition) {
         return Err(inside);
     }
-    let (mut seat, place, sleeper, mut parcel) = inside.into_parts();
-    let next = parcel.held.guarded.book.signal(place, condition);
-    door.release(&mut seat, parcel, place, Departure::Signal(condition), next);
+    let (mut seat, place, sleeper, mut guarded) = inside.into_parts();
+    let next = guarded.held.contents.book.signal(place, condition);
+    door.release(&mut seat, guarded, place, Release::Signal(condition), next);
     Ok((Away::of_parts(seat, place, sleeper), next))
 }
 
@@ -201,7 +201,7 @@ pub fn try_return<D: MonitorData, T: RawMonitor<D>, S: Parking>(
 {
     let (mut seat, place, sleeper) = away.into_parts();
     match door.try_claim(&mut seat, place) {
-        Some(parcel) => Ok(return_with(seat, place, sleeper, parcel)),
+        Some(guarded) => Ok(return_with(seat, place, sleeper, guarded)),
         None => Err(Away::of_parts(seat, place, sleeper)),
     }
 }
@@ -214,8 +214,8 @@ fn come_back<D: MonitorData, T: Wakes<D>, R: Wait>(door: &T, rt: &R, away: Away<
     ensures { IsBack D.rest D.ready (T.kinds door.now) (T.id door.now) away result }
 {
     let (mut seat, place, sleeper) = away.into_parts();
-    let parcel = claim(door, rt, &mut seat, place, &sleeper);
-    return_with(seat, place, sleeper, parcel)
+    let guarded = claim(door, rt, &mut seat, place, &sleeper);
+    return_with(seat, place, sleeper, guarded)
 }
 
 /// Implements `Monitor::wait`, at a door that wakes its places.
@@ -292,9 +292,9 @@ pub fn signal_leave_to<D: MonitorData, T: RawMonitor<D>, S: Parking>(
         let (out, next) = leave_to(door, inside);
         return (out, false, next);
     }
-    let (mut seat, place, sleeper, mut parcel) = inside.into_parts();
-    let next = parcel.held.guarded.book.pass(place, condition);
-    door.release(&mut seat, parcel, place, Departure::Pass(condition), next);
+    let (mut seat, place, sleeper, mut guarded) = inside.into_parts();
+    let next = guarded.held.contents.book.pass(place, condition);
+    door.release(&mut seat, guarded, place, Release::Pass(condition), next);
     (Outside::of_parts(seat, place, sleeper), true, next)
 }
 
@@ -320,41 +320,41 @@ pub fn signal_leave<D: MonitorData, T: RawMonitor<D>, S: Parking>(
     (out, told)
 }
 
-/// Records `notice` of `place` in the queue book. Returns how many waiters it notified (specified for a broadcast
+/// Records `notification` of `place` in the queue book. Returns how many waiters it notified (specified for a broadcast
 /// only).
 #[inline]
-fn book_calls(book: &mut Book, place: usize, notice: Notice) -> usize
+fn book_calls(book: &mut Book, place: usize, notification: Notification) -> usize
     requires inside { book.old.turn ≡ turns.Held place }
-    requires mesa { IsMesa book.old.sizes.conditions book.old.sizes.mesa (called_on notice) }
+    requires mesa { IsMesa book.old.sizes.conditions book.old.sizes.mesa (called_on notification) }
     ensures of { (h : History (Unit {0})) → IsOf book.old h
-        → IsOf book.new (after_notice h place notice) }
-    ensures answer { IsCounted notice (priorities_on book.old (called_on notice)) result }
+        → IsOf book.new (after_notification h place notification) }
+    ensures answer { IsCounted notification (priorities_on book.old (called_on notification)) result }
 {
-    match notice {
-        Notice::Notify(condition) => usize::from(book.notify(place, condition)),
-        Notice::Broadcast(condition) => book.broadcast(place, condition),
+    match notification {
+        Notification::One(condition) => usize::from(book.notify(place, condition)),
+        Notification::All(condition) => book.broadcast(place, condition),
     }
 }
 
-/// Notifies the waiters that `notice` names; there is at least one. Returns how many it notified (specified for a
+/// Notifies the waiters that `notification` names; there is at least one. Returns how many it notified (specified for a
 /// broadcast only).
 #[inline]
 fn call<D: MonitorData, T: RawMonitor<D>, S: Parking>(
     door: &T,
     inside: &mut Inside<D, S>,
-    notice: Notice,
+    notification: Notification,
 ) -> usize
     requires of { IsIn D.rest D.ready (T.kinds door.now) (T.id door.now) inside.old }
-    requires mesa { IsMesa (T.kinds door.now).conditions (T.kinds door.now).mesa (called_on notice) }
-    requires some { priorities inside.old.front.events (called_on notice) ≢ [] }
+    requires mesa { IsMesa (T.kinds door.now).conditions (T.kinds door.now).mesa (called_on notification) }
+    requires some { priorities inside.old.front.events (called_on notification) ≢ [] }
     ensures noted { Noted D.rest D.ready (T.kinds door.now) (T.id door.now)
-        inside.old notice inside.new }
-    ensures answer { IsCounted notice (priorities inside.old.front.events (called_on notice)) result }
+        inside.old notification inside.new }
+    ensures answer { IsCounted notification (priorities inside.old.front.events (called_on notification)) result }
 {
     let place = inside.place;
-    door.note(&mut inside.seat, &inside.parcel, place, notice);
-    let parcel = &mut inside.parcel;
-    book_calls(&mut parcel.held.guarded.book, place, notice)
+    door.note(&mut inside.seat, &inside.guarded, place, notification);
+    let guarded = &mut inside.guarded;
+    book_calls(&mut guarded.held.contents.book, place, notification)
 }
 
 /// Implements `Monitor::notify`.
@@ -377,7 +377,7 @@ pub fn notify<D: MonitorData, T: RawMonitor<D>, S: Parking>(
     if !inside.queue(condition) {
         return false;
     }
-    call(door, inside, Notice::Notify(condition));
+    call(door, inside, Notification::One(condition));
     true
 }
 
@@ -401,5 +401,5 @@ pub fn broadcast<D: MonitorData, T: RawMonitor<D>, S: Parking>(
     if !inside.queue(condition) {
         return 0;
     }
-    call(door, inside, Notice::Broadcast(condition))
+    call(door, inside, Notification::All(condition))
 }

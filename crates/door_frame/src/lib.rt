@@ -3,14 +3,14 @@
 #![tactic(auto)]
 
 pub mod calls;
-pub mod departure;
+pub mod guarded;
 pub mod making;
-pub mod notice;
-pub mod parcel;
+pub mod notification;
 pub mod parking;
 pub mod place;
 pub mod polling;
 pub mod raw_monitor;
+pub mod release;
 pub mod rule;
 pub mod running;
 pub mod seat_steps;

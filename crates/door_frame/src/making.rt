@@ -10,7 +10,7 @@ ghost use Rattle.door_frame.specs.declared.view.SeatView.TheVariants.{Unopened, 
 ghost use Rattle.door_frame.specs.Views.{all_know};
 ghost use Rattle.door_frame.specs.Places.{door_of, places_from, HasPlace, IsOut, Closes};
 
-use crate::parcel::Parcel;
+use crate::guarded::GuardedBox;
 use crate::place::Outside;
 use crate::rule::{DoorTable, Words};
 use crate::seat_steps::{DoorSeat, MergePlaces, SplitFirst};
@@ -88,28 +88,28 @@ pub fn parts_for<D: MonitorData>(
     })
 }
 
-/// Creates a table whose slot is empty, its first seat, and the parcel that is to go into the slot. Returns the data if
-/// an allocation failed. That is why the slot is empty at first: the door's own two opening steps take the slot, and
-/// put it back with the parcel.
+/// Creates a table whose slot is empty, its first seat, and the guarded box that is to go into the slot. Returns the
+/// data if an allocation failed. That is why the slot is empty at first: the door's own two opening steps take the
+/// slot, and put it back with the guarded box.
 pub fn vacant<D: MonitorData, K, W: Words<D, K>>(
     alloc: Global,
     state: D,
     book: Book,
     words: &[u64],
     key: &K,
-) -> Result<(DoorTable<D, K, W>, DoorSeat<D>, Parcel<D>), D>
+) -> Result<(DoorTable<D, K, W>, DoorSeat<D>, GuardedBox<D>), D>
     requires { W.starts key.now false words.now }
     ensures table { IfOk result (λ r. (r.0.shared.table_id.words ≡ length words.now)
         × (r.0.shared.table_id.slots ≡ 1) × (r.0.shared.key ≡ key.now)) }
     ensures seat { IfOk result (λ r. (r.1.table_id ≡ r.0.shared.table_id)
         × (r.1.me ≡ (Unopened (W.places key.now), []))) }
-    ensures parcel { IfOk result (λ r. (r.2.state ≡ state) × (r.2.book ≡ book)) }
+    ensures guarded { IfOk result (λ r. (r.2.state ≡ state) × (r.2.book ≡ book)) }
     ensures returned { IfErr result (λ s. s ≡ state) }
 {
-    let parcel = Parcel::new(alloc, state, book)?;
+    let guarded = GuardedBox::new(alloc, state, book)?;
     match Table::vacant(alloc, words, 1, key) {
-        Ok((table, seat)) => Ok((table, seat, parcel)),
-        Err(_) => Err(parcel.into_data()),
+        Ok((table, seat)) => Ok((table, seat, guarded)),
+        Err(_) => Err(guarded.into_data()),
     }
 }
 
@@ -197,9 +197,9 @@ pub fn closed_as<D: MonitorData, K, W: Words<D, K>, S: Parking + Drop, V: Drop, 
         table.shared.join_seat::<MergePlaces>(&mut seat, other);
     }
     let mut closed = table.close_with(seat);
-    let parcel = closed.take(0).unwrap();
+    let guarded = closed.take(0).unwrap();
     closed.free();
-    parcel.into_data()
+    guarded.into_data()
 }
 
 /// Takes apart the table of a door that wakes its places. All places are handed in, in any order. Returns the data that

@@ -16,7 +16,7 @@ ghost use Rattle.door_frame.specs.Places.{sleeper_at};
 ghost use Rattle.door_frame.specs.Steps.{due};
 ghost use Rattle.door_frame.specs.Seats.{IsEmptyHanded, EntersWith};
 
-use crate::parcel::Parcel;
+use crate::guarded::GuardedBox;
 use crate::polling::pause;
 use crate::raw_monitor::{RawMonitor, Wakes};
 use crate::seat_steps::DoorSeat;
@@ -38,15 +38,15 @@ fn poll_for_turn<D: MonitorData, T: RawMonitor<D>>(door: &T, place: usize)
     }
 }
 
-/// Blocks until the monitor is owed to `place`, enters and takes the parcel. Polls for a while, then tests and parks in
-/// turn.
+/// Blocks until the monitor is owed to `place`, enters and takes the guarded box. Polls for a while, then tests and
+/// parks in turn.
 pub fn claim<D: MonitorData, T: Wakes<D>, R: Wait>(
     door: &T,
     rt: &R,
     seat: &mut DoorSeat<D>,
     place: usize,
     sleeper: &Sleeper,
-) -> Parcel<D>
+) -> GuardedBox<D>
     requires table { seat.old.table_id ≡ (T.id door.now).table }
     requires small { place < (T.id door.now).places }
     requires sleeper { sleeper.now ≡ sleeper_at (T.id door.now) place }
@@ -56,8 +56,8 @@ pub fn claim<D: MonitorData, T: Wakes<D>, R: Wait>(
 {
     poll_for_turn(door, place);
     for _ in rt.forever() {
-        if let Some(parcel) = door.try_claim(seat, place) {
-            return parcel;
+        if let Some(guarded) = door.try_claim(seat, place) {
+            return guarded;
         }
         sleeper.sleep(rt);
     }

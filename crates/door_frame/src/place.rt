@@ -2,7 +2,7 @@
 ghost use Rattle.std.specs.Prelude.{◌≡◌, true};
 ghost use Rattle.door_frame.specs.Views.{is_alone};
 
-use crate::parcel::Parcel;
+use crate::guarded::GuardedBox;
 use crate::seat_steps::DoorSeat;
 use crate::waking::{Parking, Sleeper};
 use std::marker::Model;
@@ -127,7 +127,7 @@ pub struct Inside<D, S: Parking = Sleeper> {
     sleeper: S,
     /// The data and the queues. Public so that a door on this frame can lend the data. Code that changes the queues by
     /// hand isn't proved: the place's invariant then fails.
-    pub parcel: Parcel<D>,
+    pub guarded: GuardedBox<D>,
     ghost alone: { is_alone seat.me.0 ≡ true },
 }
 
@@ -139,10 +139,10 @@ impl<D, S: Parking> Model for Inside<D, S> {
     ghost Value = { PlaceIn D };
 
     ghost view = { λ i. place_in (place_id i.seat.table_id (S.at i.seat.table_id i.sleeper)) i.place
-        (front_of i.seat.me.0 i.alone) i.parcel.state };
+        (front_of i.seat.me.0 i.alone) i.guarded.state };
 
     ghost invariant = { λ i. IsInside i.place
-        (front_of i.seat.me.0 i.alone) i.seat.me i.parcel.book };
+        (front_of i.seat.me.0 i.alone) i.seat.me i.guarded.book };
 }
 
 impl<D, S: Parking> Inside<D, S> {
@@ -161,23 +161,23 @@ impl<D, S: Parking> Inside<D, S> {
         seat: DoorSeat<D>,
         place: usize,
         sleeper: S,
-        parcel: Parcel<D>,
+        guarded: GuardedBox<D>,
     ) -> Inside<D, S>
-        requires { (f : History D) × IsInside place f seat.me parcel.book }
-        ensures { (f : History D) → IsInside place f seat.me parcel.book
-            → result ≡ place_in (place_id seat.table_id (S.at seat.table_id sleeper)) place f parcel.state }
+        requires { (f : History D) × IsInside place f seat.me guarded.book }
+        ensures { (f : History D) → IsInside place f seat.me guarded.book
+            → result ≡ place_in (place_id seat.table_id (S.at seat.table_id sleeper)) place f guarded.state }
     {
         Inside {
             seat,
             place,
             sleeper,
-            parcel,
+            guarded,
         }
     }
 
-    /// Takes the place apart: its seat, its number, what it parks on, and the parcel.
+    /// Takes the place apart: its seat, its number, what it parks on, and the guarded box.
     #[inline]
-    pub(crate) fn into_parts(self) -> (DoorSeat<D>, usize, S, Parcel<D>)
+    pub(crate) fn into_parts(self) -> (DoorSeat<D>, usize, S, GuardedBox<D>)
         ensures parts { place_in (place_id result.0.table_id (S.at result.0.table_id result.2))
             result.1 self.front result.3.state
             ≡ self }
@@ -187,16 +187,16 @@ impl<D, S: Parking> Inside<D, S> {
             seat,
             place,
             sleeper,
-            parcel,
+            guarded,
         } = self;
-        (seat, place, sleeper, parcel)
+        (seat, place, sleeper, guarded)
     }
 
     /// Implements `Monitor::lists`: returns the queues.
     pub fn lists(&self) -> &Book
         ensures { priorities_on result.now ≡ priorities self.now.front.events }
     {
-        self.parcel.book()
+        self.guarded.book()
     }
 
     /// Implements `Monitor::queue`.
@@ -205,7 +205,7 @@ impl<D, S: Parking> Inside<D, S> {
         ensures lists { IsTrue result ↔ (priorities self.now.front.events condition ≢ []) }
         ensures front { IsTrue result ↔ (waiting condition self.now.front.events ≢ []) }
     {
-        self.parcel.book().queue(condition)
+        self.guarded.book().queue(condition)
     }
 
     /// Implements `Monitor::first`.
@@ -216,13 +216,13 @@ impl<D, S: Parking> Inside<D, S> {
             × (p ≡ slice_index (priorities self.now.front.events condition) 0)) }
         ensures front { result ≡ option_map priority_of (chosen condition self.now.front.events) }
     {
-        self.parcel.book().first(condition)
+        self.guarded.book().first(condition)
     }
 
     /// Returns the data in hand.
     pub fn state(&self) -> &D
         ensures { result.now ≡ self.now.state }
     {
-        &self.parcel.held.guarded.state
+        &self.guarded.held.contents.state
     }
 }

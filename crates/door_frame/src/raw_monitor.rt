@@ -1,5 +1,5 @@
 //! What a door does with its words: admit a place by one attempt, poll whether the monitor is owed to a place, let that
-//! place return, hand the monitor off, and record a notice.
+//! place return, hand the monitor off, and record a notification.
 ghost use Rattle.std.specs.Prelude.{◌≡◌, ◌<◌, ℕ, IfSome, IfNone, IfOk, IfErr, All};
 ghost use Rattle.hoare_law.specs.declared.event.History.{History};
 ghost use Rattle.hoare_law.specs.declared.event.Event.TheVariants as event;
@@ -10,15 +10,15 @@ ghost use Rattle.door_frame.specs.Making.{AreParts, IsMadeOf};
 ghost use Rattle.door_frame.specs.Places.{DoorId, Entered, IsOut, HasPlace, Closes};
 ghost use Rattle.door_frame.specs.Steps.{MayGive, MayNote, due};
 ghost use Rattle.door_frame.specs.Seats.{IsEmptyHanded, IsEntering, EntersWith, GoesOut, StaysIn};
-ghost use Rattle.door_frame.specs.Departures.{event_of};
-ghost use Rattle.door_frame.specs.Notices.{event_of_notice};
+ghost use Rattle.door_frame.specs.Releases.{event_of};
+ghost use Rattle.door_frame.specs.Notifications.{event_of_notification};
 
-use crate::departure::Departure;
+use crate::guarded::GuardedBox;
 use crate::making::Parts;
-use crate::notice::Notice;
-use crate::parcel::Parcel;
+use crate::notification::Notification;
 use crate::place::{Inside, Outside};
 use crate::polling::Polling;
+use crate::release::Release;
 use crate::seat_steps::DoorSeat;
 use hoare_law::data::MonitorData;
 use std::alloc::Global;
@@ -47,13 +47,14 @@ pub trait RawMonitor<D: MonitorData> {
     /// of the contract.
     fn polling(&self) -> Polling;
 
-    /// Admits the place if it may enter at this moment, and takes the parcel; else the seat is unchanged. Never blocks.
-    fn try_admit(&self, seat: &mut DoorSeat<D>, place: usize) -> Option<Parcel<D>>
+    /// Admits the place if it may enter at this moment, and takes the guarded box; else the seat is unchanged. Never
+    /// blocks.
+    fn try_admit(&self, seat: &mut DoorSeat<D>, place: usize) -> Option<GuardedBox<D>>
         requires table { seat.old.table_id ≡ (id self.now).table }
         requires outside { IsEntering place seat.old.me }
         ensures table { seat.new.table_id ≡ seat.old.table_id }
-        ensures came { IfSome result (λ parcel. EntersWith D.rest D.ready place (λ f. event.Admit place)
-            seat.old.me parcel seat.new.me) }
+        ensures came { IfSome result (λ guarded. EntersWith D.rest D.ready place (λ f. event.Admit place)
+            seat.old.me guarded seat.new.me) }
         ensures same { IfNone result (seat.new.me ≡ seat.old.me) };
 
     /// Polls the place's word once. Returns true if the monitor is owed to the place. The result is not specified: a
@@ -61,44 +62,50 @@ pub trait RawMonitor<D: MonitorData> {
     fn is_owed(&self, place: usize) -> bool
         requires { place < (id self.now).places };
 
-    /// Lets the place return if the monitor is owed to it at this moment, and takes the parcel; else the seat is
+    /// Lets the place return if the monitor is owed to it at this moment, and takes the guarded box; else the seat is
     /// unchanged. Never blocks.
-    fn try_claim(&self, seat: &mut DoorSeat<D>, place: usize) -> Option<Parcel<D>>
+    fn try_claim(&self, seat: &mut DoorSeat<D>, place: usize) -> Option<GuardedBox<D>>
         requires table { seat.old.table_id ≡ (id self.now).table }
         requires small { place < (id self.now).places }
         requires away { (f : History D) × IsEmptyHanded place f seat.old.me }
         ensures table { seat.new.table_id ≡ seat.old.table_id }
-        ensures came { IfSome result (λ parcel. EntersWith D.rest D.ready place (due place)
-            seat.old.me parcel seat.new.me) }
+        ensures came { IfSome result (λ guarded. EntersWith D.rest D.ready place (due place)
+            seat.old.me guarded seat.new.me) }
         ensures same { IfNone result (seat.new.me ≡ seat.old.me) };
 
-    /// Releases the monitor by the event of `departure`: puts the parcel back, and then writes that `next` resumes. A
+    /// Releases the monitor by the event of `how`: puts the guarded box back, and then writes that `next` resumes. A
     /// door that wakes its places then wakes that place, and the result shows it.
     fn release(
         &self,
         seat: &mut DoorSeat<D>,
-        parcel: Parcel<D>,
+        guarded: GuardedBox<D>,
         place: usize,
-        departure: Departure,
+        how: Release,
         next: Next,
     ) -> Self::Shown
         requires table { seat.old.table_id ≡ (id self.now).table }
         requires next { IsPlaceBelow (id self.now).places next }
-        requires event { MayGive D.rest D.ready (event_of place departure next) place
-            seat.old.me parcel next }
+        requires event { MayGive D.rest D.ready (event_of place how next) place
+            seat.old.me guarded next }
         ensures table { seat.new.table_id ≡ seat.old.table_id }
-        ensures away { GoesOut place (event_of place departure next)
-            seat.old.me parcel.state seat.new.me }
+        ensures away { GoesOut place (event_of place how next)
+            seat.old.me guarded.state seat.new.me }
         ensures woken { is_woken (id self.now) next result };
 
-    /// Adds the event of `notice` to the door's history, by one load of a word. The value found isn't used, and no word
-    /// changes. `parcel` only names the data in the event.
-    fn note(&self, seat: &mut DoorSeat<D>, parcel: &Parcel<D>, place: usize, notice: Notice)
+    /// Adds the event of `notification` to the door's history, by one load of a word. The value found isn't used, and
+    /// no word changes. `guarded` only names the data in the event.
+    fn note(
+        &self,
+        seat: &mut DoorSeat<D>,
+        guarded: &GuardedBox<D>,
+        place: usize,
+        notification: Notification,
+    )
         requires table { seat.old.table_id ≡ (id self.now).table }
-        requires event { MayNote D.rest D.ready (event_of_notice place notice parcel.now.state)
+        requires event { MayNote D.rest D.ready (event_of_notification place notification guarded.now.state)
             place seat.old.me }
         ensures table { seat.new.table_id ≡ seat.old.table_id }
-        ensures stays { StaysIn place (event_of_notice place notice parcel.now.state)
+        ensures stays { StaysIn place (event_of_notification place notification guarded.now.state)
             seat.old.me seat.new.me };
 }
 

@@ -2,7 +2,7 @@
 ghost use Rattle.door_frame.specs.Rule.{TableInvariant};
 ghost use Rattle.door_frame.specs.Views.{unopened};
 
-use crate::parcel::Parcel;
+use crate::guarded::GuardedBox;
 use crate::view::SeatView;
 use atomic_table::{Table, TableRule};
 use hoare_law::data::MonitorData;
@@ -34,7 +34,8 @@ pub struct Rule<W> {
     of: PhantomData<W>,
 }
 
-impl<D: MonitorData, K, W: Words<D, K>> TableRule<Option<Parcel<D>>, SeatView<D>, K> for Rule<W> {
+impl<D: MonitorData, K, W: Words<D, K>> TableRule<Option<GuardedBox<D>>, SeatView<D>, K>
+    for Rule<W> {
     ghost holds = { λ key. TableInvariant (W.starts key) (W.tells key)
         D.rest D.ready (W.kinds key) (W.places key) };
 
@@ -42,4 +43,4 @@ impl<D: MonitorData, K, W: Words<D, K>> TableRule<Option<Parcel<D>>, SeatView<D>
 }
 
 /// The table of a door. It has one slot.
-pub type DoorTable<D, K, W> = Table<Option<Parcel<D>>, SeatView<D>, K, Rule<W>, Global>;
+pub type DoorTable<D, K, W> = Table<Option<GuardedBox<D>>, SeatView<D>, K, Rule<W>, Global>;

@@ -2,19 +2,19 @@
 ghost use Rattle.door_frame.specs.Views.{places_behind, first_place, both_places, no_places};
 ghost use Rattle.door_frame.specs.Steps.{begins, opens, gives_as, notes_as, learns};
 
-use crate::parcel::Parcel;
+use crate::guarded::GuardedBox;
 use crate::view::SeatView;
 use atomic_table::{Join, Play, Seat, Split};
 use hoare_law::data::MonitorData;
 use std::marker::{Brand, PhantomData};
 
 /// The seat by which a thread does steps on a door's table.
-pub type DoorSeat<D> = Seat<Option<Parcel<D>>, SeatView<D>>;
+pub type DoorSeat<D> = Seat<Option<GuardedBox<D>>, SeatView<D>>;
 
 /// The first seat takes the empty slot.
 pub struct Begin;
 
-impl<D> Play<Option<Parcel<D>>, SeatView<D>> for Begin {
+impl<D> Play<Option<GuardedBox<D>>, SeatView<D>> for Begin {
     ghost then = { begins };
 }
 
@@ -48,7 +48,7 @@ pub struct Open<J> {
     of: PhantomData<J>,
 }
 
-impl<D: MonitorData, J: PickedKinds> Play<Option<Parcel<D>>, SeatView<D>> for Open<J> {
+impl<D: MonitorData, J: PickedKinds> Play<Option<GuardedBox<D>>, SeatView<D>> for Open<J> {
     ghost then = { opens J.kinds };
 }
 
@@ -71,12 +71,12 @@ pub struct Give<J> {
     of: PhantomData<J>,
 }
 
-impl<D, J: PickedEvent<D>> Play<Option<Parcel<D>>, SeatView<D>> for Give<J> {
+impl<D, J: PickedEvent<D>> Play<Option<GuardedBox<D>>, SeatView<D>> for Give<J> {
     ghost then = { gives_as J.event };
 }
 
 /// The event of a step by which a place stays inside, as a function of the history that it knew. Each call picks it.
-pub trait PickedNotice<D> {
+pub trait PickedNotification<D> {
     ghost use Rattle.hoare_law.specs.declared.event.Event.{Event};
     ghost use Rattle.hoare_law.specs.declared.event.History.{History};
 
@@ -84,7 +84,7 @@ pub trait PickedNotice<D> {
     ghost event: { History D → Event D };
 }
 
-impl<D> PickedNotice<D> for Brand {
+impl<D> PickedNotification<D> for Brand {
     ghost use Rattle.hoare_law.specs.declared.event.Event.TheVariants.{Leave};
 
     ghost event = { λ f. Leave 0 f.opening };
@@ -95,14 +95,14 @@ pub struct Note<J> {
     of: PhantomData<J>,
 }
 
-impl<D, J: PickedNotice<D>> Play<Option<Parcel<D>>, SeatView<D>> for Note<J> {
+impl<D, J: PickedNotification<D>> Play<Option<GuardedBox<D>>, SeatView<D>> for Note<J> {
     ghost then = { notes_as J.event };
 }
 
 /// The places of a seat learn the whole history.
 pub struct Learn;
 
-impl<D: MonitorData> Play<Option<Parcel<D>>, SeatView<D>> for Learn {
+impl<D: MonitorData> Play<Option<GuardedBox<D>>, SeatView<D>> for Learn {
     ghost then = { learns D.rest D.ready };
 }
 

@@ -16,8 +16,8 @@ use Rattle.counted_slot.proofs.Counted.TheSendSync as slots
 use Rattle.hoare_law.specs.contracts.unconstrained.Unconstrained as unconstrained
 use Rattle.hoare_law.specs.contracts.unconstrained.UnconstrainedMonitorData.TheImpl.{ghosts as data_ghosts}
 use Rattle.hoare_law.proofs.unconstrained.Unconstrained.TheSendSync as words
-use Rattle.door_frame.specs.contracts.parcel.Parcel as parcel
-use Rattle.door_frame.proofs.parcel.Parcel.TheSendSync as parcels
+use Rattle.door_frame.specs.contracts.guarded.GuardedBox as guarded
+use Rattle.door_frame.proofs.guarded.GuardedBox.TheSendSync as boxes
 use Rattle.door_frame.specs.contracts.waking.ByCaller as caller
 use Rattle.door_frame.proofs.waking.ByCaller.TheSendSync as callers
 use Rattle.door_frame.specs.contracts.waking.ByCallerParking.TheImpl.{ghosts}
@@ -59,7 +59,7 @@ out_sync =
     let fields = outside-inside.the_row Word caller.the_row ghosts in
     let field = outside-inside.the_field Word caller.the_row ghosts in
     let type = outside-inside.the_type Word caller.the_row ghosts in
-    let slot_send = options.the_send (parcel.the_row Word) (parcels.the_send Word word_send) in
+    let slot_send = options.the_send (guarded.the_row Word) (boxes.the_send Word word_send) in
     view_sync fields _ _ _ _ (recorded_sync field.row _ _ type.to_one
     (struct_sync (shape type) (seat_sync _ _ slot_send, (search sendable, (callers.the_sync, tt)))))
 

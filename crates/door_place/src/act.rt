@@ -232,8 +232,8 @@ impl Act for Set {
         let State::Inside(mut inside) = state else {
             return (state, NOT_INSIDE);
         };
-        let parcel = &mut inside.parcel;
-        parcel.held.guarded.state.value = value;
+        let guarded = &mut inside.guarded;
+        guarded.held.contents.state.value = value;
         (State::Inside(inside), DONE)
     }
 }

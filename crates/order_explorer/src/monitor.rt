@@ -106,8 +106,8 @@ impl<D: MonitorData + Send> Monitor<D> for Explored<D> {
     }
 
     fn state_mut<'a>(inside: &'a mut Inside<D>, monitor: &Self) -> &'a mut D {
-        let parcel = &mut inside.parcel;
-        &mut parcel.held.guarded.state
+        let guarded = &mut inside.guarded;
+        &mut guarded.held.contents.state
     }
 
     fn lists<'a>(&self, inside: &'a Inside<D>) -> &'a Book {

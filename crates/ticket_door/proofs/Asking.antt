@@ -10,12 +10,12 @@ use Rattle.hoare_law.specs.Events.{own, place_of, with_event}
 use Rattle.hoare_law.proofs.Admissions.{admissions-append}
 use Rattle.hoare_law.proofs.Growth.{Grows-trans}
 use Rattle.hoare_law.specs.Lawful.{Rest, Ready}
-use Rattle.door_frame.specs.declared.parcel.Guarded.{Guarded}
+use Rattle.door_frame.specs.declared.guarded.Guarded.{Guarded}
 use Rattle.hoare_law.specs.Growth.{AddsLast, Begins}
 use Rattle.hoare_law.specs.Priorities.{priorities}
 use Rattle.door_frame.specs.Places.{PlaceId, Entered, PlaceOut, PlaceIn, IsOut, IsIn, IsInHistory, place_in}
 use Rattle.door_frame.proofs.Arrivals.{entered}
-use Rattle.door_frame.proofs.Departures.{told_out}
+use Rattle.door_frame.proofs.Releases.{told_out}
 use Rattle.hoare_law.specs.declared.event.History.{History}
 use Rattle.door_frame.specs.Steps.{SeatState, EnteredBy}
 use Rattle.door_frame.specs.Views.{asking, is_alone, front_of}

@@ -14,7 +14,7 @@ use Rattle.hoare_law.specs.Lawful.{Rest, Ready}
 use Rattle.hoare_law.specs.Priorities.{nobody}
 use Rattle.hoare_law.specs.Turns.{turn, urgent}
 use Rattle.wait_book.specs.Contents.{IsOf}
-use Rattle.door_frame.specs.declared.parcel.Guarded.{Guarded}
+use Rattle.door_frame.specs.declared.guarded.Guarded.{Guarded}
 use Rattle.door_frame.specs.declared.view.SeatView.TheVariants.{Unopened, Opening}
 use Rattle.door_frame.specs.Rule.{TableInvariant}
 use Rattle.door_frame.specs.Steps.{SeatState, begins, opens}

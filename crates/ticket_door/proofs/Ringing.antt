@@ -16,7 +16,7 @@ use Rattle.hoare_law.specs.Turns.{turn, outside}
 use Rattle.hoare_law.proofs.Held.{outside-held}
 use Rattle.wait_book.specs.Contents.{times}
 use Rattle.wait_book.specs.declared.steps.Next.TheVariants as next
-use Rattle.door_frame.specs.declared.parcel.Guarded.{Guarded}
+use Rattle.door_frame.specs.declared.guarded.Guarded.{Guarded}
 use Rattle.door_frame.specs.Rule.{Cells, Tokens, TableInvariant}
 use Rattle.door_frame.specs.Steps.{SeatState, Gives, gives_as, due}
 use Rattle.door_frame.specs.Views.{alone}

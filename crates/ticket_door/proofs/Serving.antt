@@ -20,7 +20,7 @@ use Rattle.hoare_law.specs.Turns.{turn, outside}
 use Rattle.wait_book.specs.Contents.{times}
 use Rattle.wait_book.specs.declared.steps.Next.TheVariants as next
 use Rattle.wait_book.proofs.Times.{few_once, one_same}
-use Rattle.door_frame.specs.declared.parcel.Guarded.{Guarded}
+use Rattle.door_frame.specs.declared.guarded.Guarded.{Guarded}
 use Rattle.door_frame.specs.Rule.{Cells, Tokens, TableInvariant}
 use Rattle.door_frame.specs.Steps.{SeatState, Gives, Learns, Notes, gives_as, notes_as}
 use Rattle.door_frame.specs.Views.{alone, asking, knows}

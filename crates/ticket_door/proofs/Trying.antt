@@ -22,7 +22,7 @@ use Rattle.hoare_law.specs.Admissions.{admissions}
 use Rattle.hoare_law.proofs.Admissions.{admissions-admit}
 use Rattle.hoare_law.proofs.Entering.{outside-same}
 use Rattle.wait_book.proofs.Times.{few_once}
-use Rattle.door_frame.specs.declared.parcel.Guarded.{Guarded}
+use Rattle.door_frame.specs.declared.guarded.Guarded.{Guarded}
 use Rattle.door_frame.specs.declared.view.Token.{Token}
 use Rattle.door_frame.specs.declared.view.Token.TheVariants as token
 use Rattle.door_frame.specs.Rule.{Cells, Tokens, TableInvariant}

@@ -10,7 +10,7 @@ use Rattle.hoare_law.specs.Lawful.{Rest, Ready}
 use Rattle.door_frame.specs.declared.view.SeatView.{SeatView}
 use Rattle.door_frame.specs.declared.view.SeatView.TheVariants.{Places}
 use Rattle.door_frame.specs.Places.{PlaceId, DoorId, PlaceIn, PlaceOut, IsOut, door_of, place_out}
-use Rattle.door_frame.specs.declared.parcel.Guarded.{Guarded}
+use Rattle.door_frame.specs.declared.guarded.Guarded.{Guarded}
 use Rattle.door_frame.specs.Steps.{SeatState, EnteredBy}
 use Rattle.door_frame.specs.Views.{asking}
 use Rattle.hoare_law.specs.Admissions.{is_admit, admissions}

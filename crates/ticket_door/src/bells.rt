@@ -6,94 +6,95 @@ ghost use Rattle.wait_book.specs.Contents.{IsPlaceBelow};
 ghost use Rattle.wait_book.specs.declared.steps.Next.TheVariants.{For, Free};
 ghost use Rattle.door_frame.specs.Steps.{MayGive, MayNote};
 ghost use Rattle.door_frame.specs.Places.{IsWoken, sleeper_at};
-ghost use Rattle.door_frame.specs.Seats.{GoesOut, HasReleased, StaysIn};
+ghost use Rattle.door_frame.specs.Seats.{GoesOut, StaysIn};
 
 use crate::door::RawTicketDoor;
 use crate::words::{RUNG, SERVING, TURN, bell_of};
-use door_frame::departure::Departure;
-use door_frame::notice::Notice;
-use door_frame::parcel::Parcel;
-use door_frame::seat_steps::{DoorSeat, Give, Note, PickedEvent, PickedNotice};
-use door_frame::slot::put_parcel;
+use door_frame::guarded::GuardedBox;
+use door_frame::notification::Notification;
+use door_frame::release::Release;
+use door_frame::seat_steps::{DoorSeat, Give, Note, PickedEvent, PickedNotification};
+use door_frame::slot::put_guarded;
 use door_frame::waking::Woken;
 use hoare_law::data::MonitorData;
 use wait_book::steps::Next;
 
 impl<D: MonitorData> RawTicketDoor<D> {
-    /// Puts the parcel back and releases the monitor, by the event that `J` picks: to the next ticket if `next` is
-    /// `Free`, else to the place that resumes. The result shows which place was woken, if any. `departure` is there
+    /// Puts the guarded box back and releases the monitor, by the event that `J` picks: to the next ticket if `next` is
+    /// `Free`, else to the place that resumes. The result shows which place was woken, if any. `how` is there
     /// only for the pick.
     #[inline(always)] // a plain leave is short if the compiler sees that no place resumes
     pub(crate) fn give<J: PickedEvent<D>>(
         &self,
         seat: &mut DoorSeat<D>,
-        parcel: Parcel<D>,
+        guarded: GuardedBox<D>,
         place: usize,
-        departure: Departure,
+        how: Release,
         next: Next,
     ) -> Option<Woken>
         requires table { seat.old.table_id ≡ self.now.door.table }
         requires next { IsPlaceBelow self.now.door.places next }
-        requires event { MayGive D.rest D.ready J.event place seat.old.me parcel next }
+        requires event { MayGive D.rest D.ready J.event place seat.old.me guarded next }
         ensures table { seat.new.table_id ≡ seat.old.table_id }
-        ensures away { GoesOut place J.event seat.old.me parcel.state seat.new.me }
+        ensures away { GoesOut place J.event seat.old.me guarded.state seat.new.me }
         ensures woken { IsWoken self.now.door next result }
     {
         match next {
             Next::Free => {
-                self.open::<J>(seat, parcel, place);
+                self.open::<J>(seat, guarded, place);
                 None
             }
-            Next::For(resumed) => Some(self.ring::<J>(seat, parcel, place, resumed)),
+            Next::For(resumed) => Some(self.ring::<J>(seat, guarded, place, resumed)),
             Next::Held(_) => unreachable!(),
         }
     }
 
-    /// Puts the parcel back if no place resumes: the next ticket is served, and its thread is woken if it is parked.
+    /// Puts the guarded box back if no place resumes: the next ticket is served, and its thread is woken if it is
+    /// parked.
     #[inline(always)] // as `give` is, which calls it
-    fn open<J: PickedEvent<D>>(&self, seat: &mut DoorSeat<D>, parcel: Parcel<D>, place: usize)
+    fn open<J: PickedEvent<D>>(&self, seat: &mut DoorSeat<D>, guarded: GuardedBox<D>, place: usize)
         requires table { seat.old.table_id ≡ self.now.door.table }
-        requires event { MayGive D.rest D.ready J.event place seat.old.me parcel Free }
+        requires event { MayGive D.rest D.ready J.event place seat.old.me guarded Free }
         ensures table { seat.new.table_id ≡ seat.old.table_id }
-        ensures away { GoesOut place J.event seat.old.me parcel.state seat.new.me }
+        ensures away { GoesOut place J.event seat.old.me guarded.state seat.new.me }
     {
-        put_parcel(&self.table, seat, parcel);
+        put_guarded(&self.table, seat, guarded);
         self.table.shared.fetch_add::<Give<J>>(seat, SERVING, TURN);
         self.wake_next();
     }
 
-    /// Puts the parcel back for the place `resumed`, rings that place's bell, and wakes it.
+    /// Puts the guarded box back for the place `resumed`, rings that place's bell, and wakes it.
     #[inline(never)] // apart, so that a plain leave stays small
     fn ring<J: PickedEvent<D>>(
         &self,
         seat: &mut DoorSeat<D>,
-        parcel: Parcel<D>,
+        guarded: GuardedBox<D>,
         place: usize,
         resumed: usize,
     ) -> Woken
         requires table { seat.old.table_id ≡ self.now.door.table }
         requires below { resumed < self.now.door.places }
-        requires event { MayGive D.rest D.ready J.event place seat.old.me parcel (For resumed) }
+        requires event { MayGive D.rest D.ready J.event place seat.old.me guarded (For resumed) }
         ensures table { seat.new.table_id ≡ seat.old.table_id }
-        ensures away { GoesOut place J.event seat.old.me parcel.state seat.new.me }
+        ensures away { GoesOut place J.event seat.old.me guarded.state seat.new.me }
         ensures woken { result ≡ sleeper_at self.now.door resumed }
     {
-        put_parcel(&self.table, seat, parcel);
+        put_guarded(&self.table, seat, guarded);
         self.table
             .shared
             .store::<Give<J>>(seat, bell_of(resumed), RUNG);
-        self.wake(seat, resumed)
+        self.wakers[resumed].wake(seat)
     }
 
     /// Adds the event that `J` picks to the door's history, by one load of SERVING, for the place inside. The value
-    /// found isn't used. `parcel` and `notice` are there only for the pick.
+    /// found isn't used. `guarded` and `notification` are there only for the pick.
     #[inline]
-    pub(crate) fn tell<J: PickedNotice<D>>(
+    pub(crate) fn tell<J: PickedNotification<D>>(
         &self,
         seat: &mut DoorSeat<D>,
-        parcel: &Parcel<D>,
+        guarded: &GuardedBox<D>,
         place: usize,
-        notice: Notice,
+        notification: Notification,
     )
         requires table { seat.old.table_id ≡ self.now.door.table }
         requires event { MayNote D.rest D.ready J.event place seat.old.me }
@@ -101,14 +102,5 @@ impl<D: MonitorData> RawTicketDoor<D> {
         ensures stays { StaysIn place J.event seat.old.me seat.new.me }
     {
         self.table.shared.load::<Note<J>>(seat, SERVING);
-    }
-
-    /// Wakes `place`, or lets its next park return at once. The caller has released the monitor.
-    fn wake(&self, seat: &DoorSeat<D>, place: usize) -> Woken
-        requires below { place < self.now.door.places }
-        requires given_up { HasReleased seat.now.me }
-        ensures { result ≡ sleeper_at self.now.door place }
-    {
-        self.wakers[place].wake(seat)
     }
 }

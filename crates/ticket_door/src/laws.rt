@@ -15,11 +15,11 @@ use crate::parked::Parked;
 use crate::place::TicketOut;
 use crate::rule::{Sizes, TicketTable, TicketWords};
 use crate::words::{NEXT, SERVING, served_as, words_for};
+use door_frame::guarded::GuardedBox;
 use door_frame::making::{Parts, deal, parts_for, vacant};
-use door_frame::parcel::Parcel;
 use door_frame::running::RunningMonitor;
 use door_frame::seat_steps::{Begin, DoorSeat, KindsOf, Open};
-use door_frame::slot::put_parcel;
+use door_frame::slot::put_guarded;
 use hoare_law::data::MonitorData;
 use hoare_law::monitor::Monitor;
 use std::alloc::{AllocError, Global};
@@ -39,21 +39,21 @@ fn first_words(alloc: Global, places: usize, first: u64) -> Result<Vec<u64>, All
 
 /// Opens the door: `seat`, the first, takes the empty slot, and returns it with the data. Both steps are loads of
 /// SERVING.
-fn open<D: MonitorData>(table: &TicketTable<D>, seat: &mut DoorSeat<D>, parcel: Parcel<D>)
+fn open<D: MonitorData>(table: &TicketTable<D>, seat: &mut DoorSeat<D>, guarded: GuardedBox<D>)
     requires table { (seat.old.table_id ≡ table.now.shared.table_id)
         × (0 < table.now.shared.table_id.words) }
     requires seat { seat.old.me ≡ (Unopened table.now.shared.key.places, []) }
-    requires rest { D.rest parcel.state nobody }
-    requires book { IsOf parcel.book (opened (sizes_of D.CONDITIONS D.MESA table.now.shared.key.places) tt) }
+    requires rest { D.rest guarded.state nobody }
+    requires book { IsOf guarded.book (opened (sizes_of D.CONDITIONS D.MESA table.now.shared.key.places) tt) }
     ensures table { seat.new.table_id ≡ seat.old.table_id }
     ensures opened { seat.new.me ≡ (
       Places (all_know 0 table.now.shared.key.places
-          (opened (sizes_of D.CONDITIONS D.MESA table.now.shared.key.places) parcel.state)),
+          (opened (sizes_of D.CONDITIONS D.MESA table.now.shared.key.places) guarded.state)),
       [],
     ) }
 {
     table.shared.load::<Begin>(seat, SERVING);
-    put_parcel(table, seat, parcel);
+    put_guarded(table, seat, guarded);
     table.shared.load::<Open<KindsOf<D>>>(seat, SERVING);
 }
 
@@ -82,10 +82,10 @@ pub(crate) fn open_at<D: MonitorData>(
         return Err(state);
     };
     let sizes = Sizes { places, first };
-    let (table, mut seat, parcel) = vacant::<D, Sizes, TicketWords>(
+    let (table, mut seat, guarded) = vacant::<D, Sizes, TicketWords>(
         alloc, state, book, &words, &sizes,
     )?;
-    open(&table, &mut seat, parcel);
+    open(&table, &mut seat, guarded);
     let outs = deal(&table, seat, sleepers, outs, places);
     let parked = Parked::new();
     let raw_monitor = RawTicketDoor {

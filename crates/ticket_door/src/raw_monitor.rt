@@ -7,22 +7,22 @@ ghost use Rattle.door_frame.specs.Making.{AreParts, IsMadeOf};
 ghost use Rattle.door_frame.specs.Steps.{MayGive, MayNote};
 ghost use Rattle.door_frame.specs.Places.{Closes, Entered, HasPlace, IsOut, IsWoken};
 ghost use Rattle.door_frame.specs.Seats.{GoesOut, StaysIn};
-ghost use Rattle.door_frame.specs.Departures.{event_of};
-ghost use Rattle.door_frame.specs.Notices.{event_of_notice};
+ghost use Rattle.door_frame.specs.Releases.{event_of};
+ghost use Rattle.door_frame.specs.Notifications.{event_of_notification};
 
 use crate::door::RawTicketDoor;
 use crate::laws::open_at;
 use crate::place::{TicketIn, TicketOut};
 use crate::rule::TakeBell;
 use crate::words::{NEXT, RUNG, SERVING, SILENT, bell_of, served_as};
-use door_frame::departure::Departure;
+use door_frame::guarded::GuardedBox;
 use door_frame::making::{Parts, closed};
-use door_frame::notice::Notice;
-use door_frame::parcel::Parcel;
+use door_frame::notification::Notification;
 use door_frame::polling::{Polling, TICKET_POLLING};
 use door_frame::raw_monitor::{Opens, RawMonitor, Runs, Wakes};
+use door_frame::release::Release;
 use door_frame::seat_steps::DoorSeat;
-use door_frame::slot::take_parcel;
+use door_frame::slot::take_guarded;
 use door_frame::waking::Woken;
 use hoare_law::data::MonitorData;
 use std::alloc::Global;
@@ -46,7 +46,7 @@ impl<D: MonitorData> RawMonitor<D> for RawTicketDoor<D> {
     /// Shuts the gate if NEXT and SERVING have the same ticket, tries to take that ticket, and opens the gate again.
     /// Returns `None` if a place has the monitor or a ticket, and also if another place tries, or a word changes
     /// between the polls.
-    fn try_admit(&self, seat: &mut DoorSeat<D>, place: usize) -> Option<Parcel<D>> {
+    fn try_admit(&self, seat: &mut DoorSeat<D>, place: usize) -> Option<GuardedBox<D>> {
         let table = &self.table;
         let ticket = table.shared.peek(NEXT);
         if table.shared.peek(SERVING) != served_as(ticket) || !self.shut(seat, place, ticket) {
@@ -57,7 +57,7 @@ impl<D: MonitorData> RawMonitor<D> for RawTicketDoor<D> {
         if !let_in {
             return None;
         }
-        Some(take_parcel(table, seat))
+        Some(take_guarded(table, seat))
     }
 
     #[inline]
@@ -67,11 +67,11 @@ impl<D: MonitorData> RawMonitor<D> for RawTicketDoor<D> {
 
     /// Swaps the bell of `place` to `SILENT`, once. Returns `None` if it wasn't rung.
     #[inline]
-    fn try_claim(&self, seat: &mut DoorSeat<D>, place: usize) -> Option<Parcel<D>> {
+    fn try_claim(&self, seat: &mut DoorSeat<D>, place: usize) -> Option<GuardedBox<D>> {
         let table = &self.table;
         let bell = bell_of(place);
         if table.shared.swap::<TakeBell>(seat, bell, SILENT) == RUNG {
-            return Some(take_parcel(table, seat));
+            return Some(take_guarded(table, seat));
         }
         None
     }
@@ -80,33 +80,39 @@ impl<D: MonitorData> RawMonitor<D> for RawTicketDoor<D> {
     fn release(
         &self,
         seat: &mut DoorSeat<D>,
-        parcel: Parcel<D>,
+        guarded: GuardedBox<D>,
         place: usize,
-        departure: Departure,
+        how: Release,
         next: Next,
     ) -> Option<Woken>
         requires table { seat.old.table_id ≡ self.now.door.table }
         requires next { IsPlaceBelow self.now.door.places next }
-        requires event { MayGive D.rest D.ready (event_of place departure next) place
-            seat.old.me parcel next }
+        requires event { MayGive D.rest D.ready (event_of place how next) place
+            seat.old.me guarded next }
         ensures table { seat.new.table_id ≡ seat.old.table_id }
-        ensures away { GoesOut place (event_of place departure next)
-            seat.old.me parcel.state seat.new.me }
+        ensures away { GoesOut place (event_of place how next)
+            seat.old.me guarded.state seat.new.me }
         ensures woken { IsWoken self.now.door next result }
     {
-        self.give::<Brand>(seat, parcel, place, departure, next)
+        self.give::<Brand>(seat, guarded, place, how, next)
     }
 
     #[inline]
-    fn note(&self, seat: &mut DoorSeat<D>, parcel: &Parcel<D>, place: usize, notice: Notice)
+    fn note(
+        &self,
+        seat: &mut DoorSeat<D>,
+        guarded: &GuardedBox<D>,
+        place: usize,
+        notification: Notification,
+    )
         requires table { seat.old.table_id ≡ self.now.door.table }
-        requires event { MayNote D.rest D.ready (event_of_notice place notice parcel.now.state)
+        requires event { MayNote D.rest D.ready (event_of_notification place notification guarded.now.state)
             place seat.old.me }
         ensures table { seat.new.table_id ≡ seat.old.table_id }
-        ensures stays { StaysIn place (event_of_notice place notice parcel.now.state)
+        ensures stays { StaysIn place (event_of_notification place notification guarded.now.state)
             seat.old.me seat.new.me }
     {
-        self.tell::<Brand>(seat, parcel, place, notice);
+        self.tell::<Brand>(seat, guarded, place, notification);
     }
 }
 

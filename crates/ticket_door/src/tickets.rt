@@ -19,9 +19,9 @@ use crate::place::{Asked, TicketIn, TicketOut};
 use crate::rule::{Counting, PollTicket, TakeTicket};
 use crate::words::{NEXT, SERVING, served_as};
 use door_frame::calls::{self, enter_with};
-use door_frame::parcel::Parcel;
+use door_frame::guarded::GuardedBox;
 use door_frame::seat_steps::DoorSeat;
-use door_frame::slot::take_parcel;
+use door_frame::slot::take_guarded;
 use hoare_law::data::MonitorData;
 use std::marker::Brand;
 use std::sync::Wait;
@@ -82,7 +82,7 @@ impl<D: MonitorData> RawTicketDoor<D> {
         unreachable!()
     }
 
-    /// Waits until `ticket` is served, then takes the parcel. The first poll is kept apart: it is short enough to
+    /// Waits until `ticket` is served, then takes the guarded box. The first poll is kept apart: it is short enough to
     /// inline.
     #[inline]
     pub(crate) fn served<J: Counting, R: Wait>(
@@ -91,7 +91,7 @@ impl<D: MonitorData> RawTicketDoor<D> {
         seat: &mut DoorSeat<D>,
         place: usize,
         ticket: u64,
-    ) -> Parcel<D>
+    ) -> GuardedBox<D>
         requires table { seat.old.table_id ≡ self.now.door.table }
         requires first { self.now.first ≡ J.first }
         requires asked { (f : History D) × (x : ℕ) × IsAsking place f x seat.old.me × (ticket
@@ -102,10 +102,10 @@ impl<D: MonitorData> RawTicketDoor<D> {
             × (admissions c.log.events ≡ x) }
     {
         if self.is_served::<J>(seat, place, ticket) {
-            return take_parcel(&self.table, seat);
+            return take_guarded(&self.table, seat);
         }
         self.keep_looking::<J, R>(rt, seat, place, ticket);
-        take_parcel(&self.table, seat)
+        take_guarded(&self.table, seat)
     }
 
     /// Takes the next ticket. The place learns all that happened so far. `come_in` enters with the ticket, after
@@ -145,8 +145,8 @@ impl<D: MonitorData> RawTicketDoor<D> {
             sleeper,
             ticket,
         } = asked;
-        let parcel = self.served::<Brand, R>(rt, &mut seat, place, ticket);
-        enter_with(seat, place, sleeper, parcel)
+        let guarded = self.served::<Brand, R>(rt, &mut seat, place, ticket);
+        enter_with(seat, place, sleeper, guarded)
     }
 
     /// Leaves the monitor, as `leave` does. Non-blocking; needs no `Wait`.

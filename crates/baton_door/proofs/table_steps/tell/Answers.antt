@@ -7,7 +7,7 @@ load-requires g c =
     let e = c.requires.event in
     let D = g.D.MonitorData in
     let wide = c.requires.wide in
-    let event = g.J.PickedNotice.event in (
+    let event = g.J.PickedNotification.event in (
       c.requires.table,
       omega (arith, wide),
       notes_at D.rest D.ready (g.K.DoorKey.kinds c.args.table.now.shared.key) _ _ _ c.args.place e.0 event _ e.1 e.2,

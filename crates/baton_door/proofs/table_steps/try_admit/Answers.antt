@@ -7,8 +7,8 @@ try_in-requires-clause-outside g c = (c.args.place, c.requires.outside)
 pub returns-then-not-try_in-clause-same : goal.returns-then-not-try_in-clause-same
 returns-then-not-try_in-clause-same g c = c.try_in.ensures.turned_away c.if-not-try_in.true
 
-pub take_parcel-requires-clause-full : goal.take_parcel-requires-clause-full
-take_parcel-requires-clause-full g c =
+pub take_guarded-requires-clause-full : goal.take_guarded-requires-clause-full
+take_guarded-requires-clause-full g c =
     let out = c.requires.outside in
     let t = c.try_in.ensures.let_in c.if-not-try_in.false c.args.place out.0 out.1 in (_, t.0, t.1.me_is)
 
@@ -16,4 +16,4 @@ pub returns-clause-came : goal.returns-clause-came
 returns-clause-came g c = λ f away.
     let D = g.D.MonitorData in
     let t = c.try_in.ensures.let_in c.if-not-try_in.false c.args.place f away in
-    took D.rest D.ready t.1 c.take_parcel.ensures.taken c.take_parcel.ensures.empty
+    took D.rest D.ready t.1 c.take_guarded.ensures.taken c.take_guarded.ensures.empty

@@ -14,8 +14,8 @@ compare_exchange-requires g c =
           c.owed-mine.ensures,
     )
 
-pub take_parcel-requires-clause-full : goal.take_parcel-requires-clause-full
-take_parcel-requires-clause-full g c =
+pub take_guarded-requires-clause-full : goal.take_guarded-requires-clause-full
+take_guarded-requires-clause-full g c =
     let away = c.requires.away in
     let t = (c.compare_exchange.ensures.2 c.args.place away.0 away.1).1 c.if-compare_exchange-mine.true in
     (_, t.0, t.1.me_is)
@@ -24,7 +24,7 @@ pub returns-then-compare_exchange-mine-clause-came : goal.returns-then-compare_e
 returns-then-compare_exchange-mine-clause-came g c = λ f is.
     let D = g.D.MonitorData in
     let t = (c.compare_exchange.ensures.2 c.args.place f is).1 c.if-compare_exchange-mine.true in
-    took D.rest D.ready t.1 c.take_parcel.ensures.taken c.take_parcel.ensures.empty
+    took D.rest D.ready t.1 c.take_guarded.ensures.taken c.take_guarded.ensures.empty
 
 pub returns-clause-same : goal.returns-clause-same
 returns-clause-same g c =

@@ -1,7 +1,7 @@
 use Rattle.std.proofs.Common.{length, ap, sym, refl}
 use Rattle.hoare_law.specs.Growth.{none_called}
 use Rattle.wait_book.proofs.WithData.{none-listed}
-use Rattle.door_frame.proofs.Notices.{emptied_none, all_called}
+use Rattle.door_frame.proofs.Notifications.{emptied_none, all_called}
 use Rattle.door_frame.proofs.calls.broadcast.Goals as goal
 
 -- if nobody waits

@@ -1,16 +1,16 @@
 use Rattle.hoare_law.specs.Internal.WithoutData.{dataless}
-use Rattle.door_frame.proofs.Departures.{gives_leave, left, next_leave}
+use Rattle.door_frame.proofs.Releases.{gives_leave, left, next_leave}
 use Rattle.door_frame.proofs.Inside.{holds_unpacked, turn_in_hand}
 use Rattle.door_frame.proofs.Seats.{berth_on}
 use Rattle.door_frame.proofs.calls.leave_to.Goals as goal
 
 pub leave-next-requires : goal.leave-next-requires
 leave-next-requires g c =
-    turn_in_hand (holds_unpacked c.deref_mut.ensures.value c.parcel.view_is c.into_parts-seat.ensures c.requires.of)
+    turn_in_hand (holds_unpacked c.deref_mut.ensures.value c.guarded.view_is c.into_parts-seat.ensures c.requires.of)
 
 pub release-requires-clause-event : goal.release-requires-clause-event
 release-requires-clause-event g c =
-    let h = holds_unpacked c.deref_mut.ensures.value c.parcel.view_is c.into_parts-seat.ensures c.requires.of in
+    let h = holds_unpacked c.deref_mut.ensures.value c.guarded.view_is c.into_parts-seat.ensures c.requires.of in
     gives_leave _ _ h c.requires.rest (c.leave-next.ensures.of (dataless c.args.inside.front) h.book)
     c.leave-next.ensures.next
 
@@ -19,7 +19,7 @@ of_parts-requires g c = (_, c.release.ensures.away _ c.into_parts-seat.ensures.s
 
 pub returns : goal.returns
 returns g c =
-    let h = holds_unpacked c.deref_mut.ensures.value c.parcel.view_is c.into_parts-seat.ensures c.requires.of in
+    let h = holds_unpacked c.deref_mut.ensures.value c.guarded.view_is c.into_parts-seat.ensures c.requires.of in
     let is = c.of_parts.ensures _ (c.release.ensures.away _ h.me_is) in
     let o = left _ _ h c.requires.rest (berth_on g.S.Parking.at _ c.release.ensures.table) is in
     record {

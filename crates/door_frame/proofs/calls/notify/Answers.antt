@@ -1,7 +1,7 @@
 use Rattle.std.proofs.Common.{refl}
 use Rattle.hoare_law.specs.Growth.{nobody_called}
 use Rattle.wait_book.proofs.WithData.{none-listed}
-use Rattle.door_frame.proofs.Notices.{taken_none, notified}
+use Rattle.door_frame.proofs.Notifications.{taken_none, notified}
 use Rattle.door_frame.proofs.calls.notify.Goals as goal
 
 -- if nobody waits

@@ -2,7 +2,7 @@ use Rattle.std.proofs.Common.{true, refl}
 use Rattle.hoare_law.specs.Internal.WithoutData.{dataless}
 use Rattle.hoare_law.specs.Growth.{just_left}
 use Rattle.wait_book.proofs.WithData.{none-listed}
-use Rattle.door_frame.proofs.Departures.{gives_handing, passed, next_handing}
+use Rattle.door_frame.proofs.Releases.{gives_handing, passed, next_handing}
 use Rattle.door_frame.proofs.Inside.{holds_unpacked, turn_in_hand}
 use Rattle.door_frame.proofs.Seats.{berth_on}
 use Rattle.door_frame.proofs.calls.signal_leave_to.Goals as goal
@@ -19,11 +19,11 @@ returns-then-not-queue-clause-front g c =
 
 pub pass-next-requires-clause-inside : goal.pass-next-requires-clause-inside
 pass-next-requires-clause-inside g c =
-    turn_in_hand (holds_unpacked c.deref_mut.ensures.value c.parcel.view_is c.into_parts-seat.ensures c.requires.of)
+    turn_in_hand (holds_unpacked c.deref_mut.ensures.value c.guarded.view_is c.into_parts-seat.ensures c.requires.of)
 
 pub release-requires-clause-event : goal.release-requires-clause-event
 release-requires-clause-event g c =
-    let h = holds_unpacked c.deref_mut.ensures.value c.parcel.view_is c.into_parts-seat.ensures c.requires.of in
+    let h = holds_unpacked c.deref_mut.ensures.value c.guarded.view_is c.into_parts-seat.ensures c.requires.of in
     let some = (c.if-not-queue.ensures.lists).0 refl in
     gives_handing true _ _ _ h c.requires.hoare some (c.requires.ready some)
     (c.pass-next.ensures.of (dataless c.args.inside.front) h.book) c.pass-next.ensures.next
@@ -33,7 +33,7 @@ of_parts-requires g c = (_, c.release.ensures.away _ c.into_parts-seat.ensures.s
 
 pub returns : goal.returns
 returns g c =
-    let h = holds_unpacked c.deref_mut.ensures.value c.parcel.view_is c.into_parts-seat.ensures c.requires.of in
+    let h = holds_unpacked c.deref_mut.ensures.value c.guarded.view_is c.into_parts-seat.ensures c.requires.of in
     let some = (c.if-not-queue.ensures.lists).0 refl in
     let book = c.pass-next.ensures.of (dataless c.args.inside.front) h.book in
     let is = c.of_parts.ensures _ (c.release.ensures.away _ h.me_is) in

@@ -1,7 +1,7 @@
 use Rattle.std.proofs.Common.{rules, arith, ◌≡◌, ℕ, ◌-◌, List, ◌∷◌, ◌++◌, [], take, Some, IsSome, refl, sym, ap, ◌∙◌}
 use Rattle.std.proofs.Common.{subst, append-nil, append_assoc}
 use Rattle.std.specs.Prelude.{All}
-use Rattle.door_frame.specs.declared.parcel.Guarded.{Guarded}
+use Rattle.door_frame.specs.declared.guarded.Guarded.{Guarded}
 use Rattle.door_frame.specs.declared.view.SeatView.TheVariants.{Places}
 use Rattle.door_frame.specs.Places.{PlaceId, DoorId, HasPlace, PlaceOut, IsOut, door_of}
 use Rattle.door_frame.specs.Steps.{SeatState}
@@ -82,11 +82,11 @@ ended g c =
     (none_left _ _ _ p.items p.cases.0 p.rest) (ap (λ (m : SeatState g.row.D.Denot). m.0) inv.1.2) c.requires.of
     c.requires.places c.close_with-closed.ensures.values.2 c.take.ensures.value
 
-pub unwrap-parcel-requires : goal.unwrap-parcel-requires
-unwrap-parcel-requires g c = subst IsSome (sym (ended g c).1) refl
+pub unwrap-guarded-requires : goal.unwrap-guarded-requires
+unwrap-guarded-requires g c = subst IsSome (sym (ended g c).1) refl
 
 pub returns : goal.returns
 returns g c =
     let fin = ended g (goal.at.returns g c).After-take in
-    let e = ends_at fin.2 (sym fin.1 ∙ c.unwrap-parcel.ensures) (sym c.into_data.ensures) in
+    let e = ends_at fin.2 (sym fin.1 ∙ c.unwrap-guarded.ensures) (sym c.into_data.ensures) in
     record { closes = e.0; rest = e.1 }

@@ -1,6 +1,6 @@
 use Rattle.std.proofs.Common.{rules, refl, ap, ◌∙◌}
 use Rattle.door_frame.specs.Steps.{SeatState}
-use Rattle.door_frame.proofs.Parcels.{laid_down}
+use Rattle.door_frame.proofs.GuardedBoxes.{laid_down}
 use Rattle.ticket_door.proofs.Opening.{begins_at, opens_at}
 use Rattle.ticket_door.proofs.laws.open.Goals as goal
 use Rattle.hoare_law.specs.Sizes.{kinds_of}
@@ -15,8 +15,8 @@ load-requires g c =
           (kinds_of D.CONDITIONS D.MESA) _ _ _ c.requires.seat,
     )
 
-pub put_parcel-requires-clause-empty : goal.put_parcel-requires-clause-empty
-put_parcel-requires-clause-empty g c = (
+pub put_guarded-requires-clause-empty : goal.put_guarded-requires-clause-empty
+put_guarded-requires-clause-empty g c = (
   _,
   c.load.ensures.2 _ (ap (λ (m : SeatState g.row.D.Denot). m.0)
       c.requires.seat),
@@ -27,15 +27,15 @@ load-requires-2 g c =
     let D = g.D.MonitorData in
     let key = c.args.table.now.shared.key in
     let begun = c.load.ensures.2 _ (ap (λ (m : SeatState g.row.D.Denot). m.0) c.requires.seat) in
-    let laid = c.put_parcel.ensures.laid ∙ laid_down c.args.parcel refl begun in (
+    let laid = c.put_guarded.ensures.laid ∙ laid_down c.args.guarded refl begun in (
       search rules,
       search rules,
       opens_at key.first key.places D.rest D.ready
-          (kinds_of D.CONDITIONS D.MESA) _ _ c.args.parcel _ laid c.requires.rest c.requires.book,
+          (kinds_of D.CONDITIONS D.MESA) _ _ c.args.guarded _ laid c.requires.rest c.requires.book,
     )
 
 pub returns-clause-opened : goal.returns-clause-opened
 returns-clause-opened g c =
     let begun = c.load.ensures.2 _ (ap (λ (m : SeatState g.row.D.Denot). m.0) c.requires.seat) in
-    let laid = c.put_parcel.ensures.laid ∙ laid_down c.args.parcel refl begun in
-    c.load-2.ensures.2 _ c.args.parcel laid
+    let laid = c.put_guarded.ensures.laid ∙ laid_down c.args.guarded refl begun in
+    c.load-2.ensures.2 _ c.args.guarded laid

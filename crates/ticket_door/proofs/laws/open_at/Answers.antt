@@ -13,7 +13,7 @@ returns-clause-made g c =
     let D = g.D.MonitorData in
     let made = c.in_ok-table.ensures in
     let key = ap (λ (z : Sizes). z.places) made.table.2 in
-    let are = dealt key _ _ _ c.requires.each_wakes c.open.ensures.opened c.deal-outs.ensures made.parcel.0 in
+    let are = dealt key _ _ _ c.requires.each_wakes c.open.ensures.opened c.deal-outs.ensures made.guarded.0 in
     record {
       places = key;
       of = made_outside D.rest D.ready (kinds_of D.CONDITIONS D.MESA) _ _ key are c.requires.rests;

@@ -9,5 +9,5 @@ give_to-requires-clause-below g c = subst (IsPlaceBelow c.args.self.now.places) 
 pub give_to-requires-clause-event : goal.give_to-requires-clause-event
 give_to-requires-clause-event g c =
     let D = g.D.MonitorData in
-    subst (MayGive D.rest D.ready g.J.PickedEvent.event c.args.place c.args.seat.now.me c.args.parcel)
+    subst (MayGive D.rest D.ready g.J.PickedEvent.event c.args.place c.args.seat.now.me c.args.guarded)
     c.in-For.is c.requires.event

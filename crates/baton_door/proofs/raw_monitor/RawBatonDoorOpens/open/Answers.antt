@@ -10,7 +10,7 @@ returns-clause-made g c =
     let D = g.D.MonitorData in
     let made = c.in_ok-table.ensures in
     let are =
-    dealt made.table.2 _ _ _ c.requires.each_wakes c.open.ensures.opened c.deal-outs.ensures made.parcel.0 in
+    dealt made.table.2 _ _ _ c.requires.each_wakes c.open.ensures.opened c.deal-outs.ensures made.guarded.0 in
     record {
       places = made.table.2;
       of =

@@ -12,7 +12,7 @@ use Rattle.baton_door.proofs.step_door.StepDoor.make.Goals as goal
 pub open-requires-clause-book : goal.open-requires-clause-book
 open-requires-clause-book g c =
     let made = c.in-Ok-vacant.ensures in
-    subst (λ (b : Contents). IsOf b (opened c.in-Ok-vacant.made.0.shared.key tt)) (sym made.parcel.1)
+    subst (λ (b : Contents). IsOf b (opened c.in-Ok-vacant.made.0.shared.key tt)) (sym made.guarded.1)
     (subst (λ (z : Sizes). IsOf c.in-Ok.book (opened z tt)) (sym made.table.2) c.in-Ok.ensures.made.1)
 
 pub deal_by_caller-outs-requires-clause-seat : goal.deal_by_caller-outs-requires-clause-seat
@@ -28,7 +28,7 @@ returns-clause-of g c =
     let places = ap (λ (z : Sizes). z.places) made.table.2 in
     let none : ◌≡◌ {A = List TableId} [] [] = refl in
     made_outside D.rest D.ready (kinds_of key.conditions key.mesa) _ _ places
-    (dealt places _ _ _ none c.open.ensures.opened c.deal_by_caller-outs.ensures made.parcel.0) c.requires.rest
+    (dealt places _ _ _ none c.open.ensures.opened c.deal_by_caller-outs.ensures made.guarded.0) c.requires.rest
 
 pub returns-clause-places : goal.returns-clause-places
 returns-clause-places g c =
@@ -43,4 +43,4 @@ returns-clause-places g c =
           (opened (sizes_of (z i).conditions (z i).mesa key.places) x)),
       [],
     )))
-    c.deal_by_caller-outs.ensures made.parcel.0
+    c.deal_by_caller-outs.ensures made.guarded.0

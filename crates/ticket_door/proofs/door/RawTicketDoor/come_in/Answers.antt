@@ -6,8 +6,8 @@ use Rattle.ticket_door.proofs.Asking.{came_in}
 use Rattle.ticket_door.proofs.door.RawTicketDoor.come_in.Goals as goal
 use Rattle.hoare_law.specs.Sizes.{kinds_of}
 
-pub served-parcel-requires-clause-asked : goal.served-parcel-requires-clause-asked
-served-parcel-requires-clause-asked g c =
+pub served-guarded-requires-clause-asked : goal.served-guarded-requires-clause-asked
+served-guarded-requires-clause-asked g c =
     let D = g.D.MonitorData in
     let o =
     subst (IsAsked D.rest D.ready (kinds_of D.CONDITIONS D.MESA) c.args.self.now) (sym c.asked.view_is) c.requires in (
@@ -23,7 +23,7 @@ enter_with-requires g c =
     record {
       came = (
         front_of c.asked.inside.seat.me.0 c.asked.inside.alone,
-        (c.served-parcel.ensures.came _ _ c.asked.invariant).0,
+        (c.served-guarded.ensures.came _ _ c.asked.invariant).0,
       );
     }
 
@@ -32,9 +32,9 @@ returns g c =
     let D = g.D.MonitorData in
     let o =
     subst (IsAsked D.rest D.ready (kinds_of D.CONDITIONS D.MESA) c.args.self.now) (sym c.asked.view_is) c.requires in
-    let m = c.served-parcel.ensures.came _ _ c.asked.invariant in
+    let m = c.served-guarded.ensures.came _ _ c.asked.invariant in
     let r =
     came_in D.rest D.ready (kinds_of D.CONDITIONS D.MESA) c.asked.view_is o
-    (berth_as _ c.served-parcel.ensures.table) m.0 m.1
+    (berth_as _ c.served-guarded.ensures.table) m.0 m.1
     (c.enter_with.ensures _ m.0) in
     record { of = r.of; place = r.place; rest = r.rests; front = r.front; in_turn = r.in_turn; behind = r.behind }

@@ -3,8 +3,8 @@ use Rattle.hoare_law.specs.Admissions.{admissions}
 use Rattle.door_frame.proofs.Seats.{took_also}
 use Rattle.ticket_door.proofs.door.RawTicketDoor.served.Goals as goal
 
-pub take_parcel-requires-clause-full : goal.take_parcel-requires-clause-full
-take_parcel-requires-clause-full g c =
+pub take_guarded-requires-clause-full : goal.take_guarded-requires-clause-full
+take_guarded-requires-clause-full g c =
     let a = c.requires.asked in let t = c.is_served.ensures.let_in c.if-is_served.true a.0 a.1 a.2 in
     (_, t.0, t.1.me_is)
 
@@ -13,15 +13,15 @@ returns-then-is_served-clause-came g c = λ f x is.
     let D = g.D.MonitorData in
     let t = c.is_served.ensures.let_in c.if-is_served.true f x is in
     took_also D.rest D.ready
-    (λ log. admissions log.events ≡ x) t.1 t.2 c.take_parcel.ensures.taken c.take_parcel.ensures.empty
+    (λ log. admissions log.events ≡ x) t.1 t.2 c.take_guarded.ensures.taken c.take_guarded.ensures.empty
 
 pub keep_looking-requires-clause-asked : goal.keep_looking-requires-clause-asked
 keep_looking-requires-clause-asked g c =
     let a = c.requires.asked in
     (a.0, a.1, c.is_served.ensures.missed c.if-is_served.false ∙ a.2, a.3, a.4)
 
-pub take_parcel-requires-2-clause-full : goal.take_parcel-requires-2-clause-full
-take_parcel-requires-2-clause-full g c =
+pub take_guarded-requires-2-clause-full : goal.take_guarded-requires-2-clause-full
+take_guarded-requires-2-clause-full g c =
     let a = c.requires.asked in
     let t = c.keep_looking.ensures.let_in a.0 a.1 (c.is_served.ensures.missed c.if-is_served.false ∙ a.2) in
     (_, t.0, t.1.me_is)
@@ -31,4 +31,4 @@ returns-clause-came g c = λ f x is.
     let D = g.D.MonitorData in
     let t = c.keep_looking.ensures.let_in f x (c.is_served.ensures.missed c.if-is_served.false ∙ is) in
     took_also D.rest D.ready
-    (λ log. admissions log.events ≡ x) t.1 t.2 c.take_parcel-2.ensures.taken c.take_parcel-2.ensures.empty
+    (λ log. admissions log.events ≡ x) t.1 t.2 c.take_guarded-2.ensures.taken c.take_guarded-2.ensures.empty

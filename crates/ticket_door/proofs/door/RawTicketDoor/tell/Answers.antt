@@ -15,7 +15,7 @@ load-requires g c =
       c.requires.table ∙ ap (λ (d : TicketDoorId). d.door.table) (sym c.self.view_is),
       omega (arith, wide),
       notes_at t.key.first t.key.places D.rest D.ready
-          (kinds_of D.CONDITIONS D.MESA) _ _ c.args.place e.0 g.J.PickedNotice.event
+          (kinds_of D.CONDITIONS D.MESA) _ _ c.args.place e.0 g.J.PickedNotification.event
           (step t.table_id.slots 0 0 0 none) _ e.1 e.2,
     )
 

@@ -21,8 +21,8 @@ returns-then-not-let_in-clause-same g c =
     (c.try_in-let_in.ensures.missed c.if-not-let_in.true ∙ trying)
     ∙ sym out.1
 
-pub take_parcel-requires-clause-full : goal.take_parcel-requires-clause-full
-take_parcel-requires-clause-full g c =
+pub take_guarded-requires-clause-full : goal.take_guarded-requires-clause-full
+take_guarded-requires-clause-full g c =
     let out = c.requires.outside in
     let trying = c.shut.ensures.shut c.if-not-shut.false out.0 out.1 in
     let t = c.try_in-let_in.ensures.let_in c.if-not-let_in.false out.0 trying in
@@ -32,4 +32,4 @@ pub returns-clause-came : goal.returns-clause-came
 returns-clause-came g c = λ f away.
     let D = g.D.MonitorData in
     let t = c.try_in-let_in.ensures.let_in c.if-not-let_in.false f (c.shut.ensures.shut c.if-not-shut.false f away) in
-    took D.rest D.ready (came_by t.1 c.reopen.ensures.opened) c.take_parcel.ensures.taken c.take_parcel.ensures.empty
+    took D.rest D.ready (came_by t.1 c.reopen.ensures.opened) c.take_guarded.ensures.taken c.take_guarded.ensures.empty

@@ -24,8 +24,8 @@ swap-requires g c =
           away.1 c.bell_of-bell.ensures,
     )
 
-pub take_parcel-requires-clause-full : goal.take_parcel-requires-clause-full
-take_parcel-requires-clause-full g c =
+pub take_guarded-requires-clause-full : goal.take_guarded-requires-clause-full
+take_guarded-requires-clause-full g c =
     let away = c.requires.away in
     let t = (c.swap.ensures.2 c.args.place away.0 away.1).1 c.if-swap-eq-RUNG.true in (_, t.0, t.1.me_is)
 
@@ -33,7 +33,7 @@ pub returns-then-swap-eq-RUNG-clause-came : goal.returns-then-swap-eq-RUNG-claus
 returns-then-swap-eq-RUNG-clause-came g c = λ f is.
     let D = g.D.MonitorData in
     let t = (c.swap.ensures.2 c.args.place f is).1 c.if-swap-eq-RUNG.true in
-    took D.rest D.ready t.1 c.take_parcel.ensures.taken c.take_parcel.ensures.empty
+    took D.rest D.ready t.1 c.take_guarded.ensures.taken c.take_guarded.ensures.empty
 
 pub returns-clause-same : goal.returns-clause-same
 returns-clause-same g c =

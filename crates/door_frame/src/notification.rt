@@ -2,9 +2,9 @@
 
 /// Which waiters a place inside notifies. That place stays inside.
 #[derive(Clone, Copy)]
-pub enum Notice {
+pub enum Notification {
     /// The waiter that a signal on this condition would resume.
-    Notify(usize),
+    One(usize),
     /// All waiters on this condition.
-    Broadcast(usize),
+    All(usize),
 }

@@ -2,7 +2,7 @@
 
 /// The act by which a place inside releases the monitor.
 #[derive(Clone, Copy)]
-pub enum Departure {
+pub enum Release {
     /// Waits on this condition, with this priority.
     Wait(usize, u64),
     /// Signals this condition, on which a place waits, and returns later.

@@ -1,7 +1,7 @@
 use Rattle.std.proofs.Common.{rules, ap, sym, ◌∙◌, subst, Some, None, IsSome, refl}
 use Rattle.door_frame.specs.Steps.{SeatState}
 use Rattle.door_frame.proofs.Seats.{one_slot, slot_has, slot_is, slot_now}
-use Rattle.door_frame.proofs.slot.take_parcel.Goals as goal
+use Rattle.door_frame.proofs.slot.take_guarded.Goals as goal
 
 pub exchange-requires : goal.exchange-requires
 exchange-requires g c =

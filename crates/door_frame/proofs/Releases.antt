@@ -31,9 +31,9 @@ use Rattle.wait_book.specs.Contents.{Contents, IsOf, next_of}
 use Rattle.wait_book.specs.Stepping.{after_pass, after_signal}
 use Rattle.wait_book.proofs.Histories.{after_handing}
 use Rattle.wait_book.proofs.WithData.{next-history, turn-history, IsOf-event, IsOf-handing}
-use Rattle.door_frame.specs.declared.parcel.Guarded.{Guarded}
-use Rattle.door_frame.specs.declared.departure.Departure.TheVariants as departure
-use Rattle.door_frame.specs.Departures.{place_for, event_of}
+use Rattle.door_frame.specs.declared.guarded.Guarded.{Guarded}
+use Rattle.door_frame.specs.declared.release.Release.TheVariants as release
+use Rattle.door_frame.specs.Releases.{place_for, event_of}
 use Rattle.door_frame.specs.Places.{PlaceId, DoorId, IsOut, IsAway, PlaceOut, PlaceIn, Handed, HandsTo, Released, waits}
 use Rattle.door_frame.specs.Places.{signalled, place_id_at, place_in, place_out}
 use Rattle.door_frame.specs.Steps.{SeatState, Gives, MayGive}
@@ -159,7 +159,7 @@ module _ {D : Type 0} where
     pub gives_leave : (b : Contents) (who : Next) → Holds rest ready kinds d i t k f me x
         → rest i.state (priorities i.front.events)
         → IsOf b (with_event (dataless f) (Leave k tt)) → who ≡ next_of b.turn
-        → MayGive rest ready (event_of k departure.Leave who) k me (record { state = x.state; book = b }) who
+        → MayGive rest ready (event_of k release.Leave who) k me (record { state = x.state; book = b }) who
     gives_leave b who h asked book is =
         may_give (λ s. Leave k s) b who h refl refl refl
         (Allowed-leave f k x.state h.within.stands.legal h.within.is_inside)
@@ -169,7 +169,7 @@ module _ {D : Type 0} where
         → c < kinds.conditions
         → rest i.state (joined (priorities i.front.events) c p) → IsOf b (with_event (dataless f) (Wait k c p tt))
         → who ≡ next_of b.turn
-        → MayGive rest ready (event_of k (departure.Wait c p) who) k me (record { state = x.state; book = b }) who
+        → MayGive rest ready (event_of k (release.Wait c p) who) k me (record { state = x.state; book = b }) who
     gives_wait c p b who h small asked book is =
         may_give (λ s. Wait k c p s) b who h refl refl refl
         (Allowed-wait f k c p x.state h.within.stands.legal h.within.is_inside

@@ -1,12 +1,13 @@
--- The contents of a parcel's box, and a parcel in its slot.
+-- What a guarded box has in it, and a guarded box in its slot.
 use Rattle.std.proofs.Common.{◌≡◌, Some, [], ◌∷◌, ap, ◌∙◌}
-use Rattle.door_frame.specs.declared.parcel.Guarded.{Guarded}
-use Rattle.door_frame.specs.declared.parcel.ParcelBox.{ParcelBox}
+use Rattle.door_frame.specs.declared.guarded.Guarded.{Guarded}
+use Rattle.door_frame.specs.declared.guarded.BoxContents.{BoxContents}
 use Rattle.door_frame.specs.Steps.{SeatState}
 
--- the contents read from the box are the value of the parcel
-pub unpacked : {D : Type 0} {now held : ParcelBox D} {x : Guarded D} → now ≡ held → held.guarded ≡ x → now.guarded ≡ x
-unpacked {D} found is = ap (λ (n : ParcelBox D). n.guarded) found ∙ is
+-- what is read from the box is the value of the guarded box
+pub unpacked : {D : Type 0} {now held : BoxContents D} {x : Guarded D} → now ≡ held → held.contents ≡ x
+    → now.contents ≡ x
+unpacked {D} found is = ap (λ (n : BoxContents D). n.contents) found ∙ is
 
 -- a seat that puts what equals x into the slot has x in the slot, and its view is unchanged
 pub laid_down : {D : Type 0} {m before : SeatState D} {laid : Guarded D} (x : Guarded D) → laid ≡ x → m ≡ before

@@ -26,13 +26,13 @@ use Rattle.hoare_law.proofs.Priorities.{priorities-nobody, priorities-notify, pr
 use Rattle.wait_book.specs.Contents.{Contents, IsOf}
 use Rattle.wait_book.specs.Stepping.{after_notify, after_broadcast}
 use Rattle.wait_book.proofs.WithData.{IsOf-notify, IsOf-broadcast}
-use Rattle.door_frame.specs.declared.notice.Notice.{Notice}
-use Rattle.door_frame.specs.declared.notice.Notice.TheVariants.{Notify, Broadcast}
-use Rattle.door_frame.specs.declared.parcel.Guarded.{Guarded}
-use Rattle.door_frame.specs.Notices.{chosen_place, event_of_notice, called_on, after_notice, Noted}
+use Rattle.door_frame.specs.declared.notification.Notification.{Notification}
+use Rattle.door_frame.specs.declared.notification.Notification.TheVariants.{One, All}
+use Rattle.door_frame.specs.declared.guarded.Guarded.{Guarded}
+use Rattle.door_frame.specs.Notifications.{chosen_place, event_of_notification, called_on, after_notification, Noted}
 use Rattle.door_frame.specs.Places.{PlaceId, DoorId, IsIn, PlaceIn, place_in}
 use Rattle.door_frame.specs.Steps.{SeatState, Notes}
-use Rattle.door_frame.proofs.Departures.{sized_here}
+use Rattle.door_frame.proofs.Releases.{sized_here}
 use Rattle.door_frame.specs.Views.{alone, is_alone, front_of}
 use Rattle.door_frame.proofs.Inside.{Holds}
 use Rattle.door_frame.proofs.Seats.{at_front}
@@ -73,7 +73,7 @@ module _ {D : Type 0} where
   module _ {rest : Rest D} {ready : Ready D} {kinds : Kinds} {d : DoorId} {i : PlaceIn D} where
     -- the front and the lists after a notify on a condition with a waiter
     pub notified : (c : ℕ) {j : PlaceIn D} → IsIn rest ready kinds d i → priorities i.front.events c ≢ []
-        → Noted rest ready kinds d i (Notify c) j
+        → Noted rest ready kinds d i (One c) j
         → Notifies i.place c i.state i.front j.front true
         × (priorities j.front.events ≡ taken (priorities i.front.events) c)
     notified c of some n =
@@ -86,7 +86,7 @@ module _ {D : Type 0} where
 
     -- the front and the lists after a broadcast on a condition with a waiter
     pub all_called : (c : ℕ) {j : PlaceIn D} → IsIn rest ready kinds d i → priorities i.front.events c ≢ []
-        → Noted rest ready kinds d i (Broadcast c) j
+        → Noted rest ready kinds d i (All c) j
         → Broadcasts i.place c i.state i.front j.front
         × (priorities j.front.events ≡ emptied (priorities i.front.events) c)
     all_called c of some n = (
@@ -104,7 +104,7 @@ module _ {D : Type 0} where
       somebody_waits c h some = λ none. some_listed c h some (priorities-nobody c f.events none)
 
       notes_notify : (c : ℕ) → Holds rest ready kinds d i t k f me x → IsMesa kinds.conditions kinds.mesa c
-          → priorities i.front.events c ≢ [] → Notes rest ready (event_of_notice k (Notify c) x.state f) k f
+          → priorities i.front.events c ≢ [] → Notes rest ready (event_of_notification k (One c) x.state f) k f
       notes_notify c h mesa_c some =
           let legal = h.within.stands.legal in
           let here : IsMesa f.sizes.conditions f.sizes.mesa c =
@@ -120,7 +120,7 @@ module _ {D : Type 0} where
           })
 
       notes_broadcast : (c : ℕ) → Holds rest ready kinds d i t k f me x → IsMesa kinds.conditions kinds.mesa c
-          → priorities i.front.events c ≢ [] → Notes rest ready (event_of_notice k (Broadcast c) x.state f) k f
+          → priorities i.front.events c ≢ [] → Notes rest ready (event_of_notification k (All c) x.state f) k f
       notes_broadcast c h mesa_c some =
           let legal = h.within.stands.legal in
           let here : IsMesa f.sizes.conditions f.sizes.mesa c =
@@ -134,15 +134,16 @@ module _ {D : Type 0} where
           }
 
       -- the place may notify
-      pub notes_notice : (notice : Notice) → Holds rest ready kinds d i t k f me x
-          → IsMesa kinds.conditions kinds.mesa (called_on notice) → priorities i.front.events (called_on notice) ≢ []
-          → Notes rest ready (event_of_notice k notice x.state f) k f
-      notes_notice (Notify c) h mesa_c some = notes_notify c h mesa_c some
-      notes_notice (Broadcast c) h mesa_c some = notes_broadcast c h mesa_c some
+      pub notes_notification : (notification : Notification) → Holds rest ready kinds d i t k f me x
+          → IsMesa kinds.conditions kinds.mesa (called_on notification)
+          → priorities i.front.events (called_on notification) ≢ []
+          → Notes rest ready (event_of_notification k notification x.state f) k f
+      notes_notification (One c) h mesa_c some = notes_notify c h mesa_c some
+      notes_notification (All c) h mesa_c some = notes_broadcast c h mesa_c some
 
       book_notified : (c : ℕ) (b : Contents) → Holds rest ready kinds d i t k f me x
           → priorities i.front.events c ≢ [] → IsOf b (after_notify (dataless f) k c (chosen c (dataless f).events))
-          → IsOf b (dataless (with_event f (event_of_notice k (Notify c) x.state f)))
+          → IsOf b (dataless (with_event f (event_of_notification k (One c) x.state f)))
       book_notified c b h some o =
           let e = chosen-some c f.events (some_listed c h some) in
           subst (λ (w : ℕ). IsOf b (dataless (with_event f (event.Notify k c w x.state))))
@@ -151,26 +152,28 @@ module _ {D : Type 0} where
 
       book_all_called : (c : ℕ) (b : Contents) → Holds rest ready kinds d i t k f me x
           → priorities i.front.events c ≢ [] → IsOf b (after_broadcast (dataless f) k c (waiting c (dataless f).events))
-          → IsOf b (dataless (with_event f (event_of_notice k (Broadcast c) x.state f)))
+          → IsOf b (dataless (with_event f (event_of_notification k (All c) x.state f)))
       book_all_called c b h some o = IsOf-broadcast b f k c x.state (somebody_waits c h some) o
 
       -- the book in hand is then of the front
-      pub book_noticed : (notice : Notice) (b : Contents) → Holds rest ready kinds d i t k f me x
-          → priorities i.front.events (called_on notice) ≢ [] → IsOf b (after_notice (dataless f) k notice)
-          → IsOf b (dataless (with_event f (event_of_notice k notice x.state f)))
-      book_noticed (Notify c) b h some o = book_notified c b h some o
-      book_noticed (Broadcast c) b h some o = book_all_called c b h some o
+      pub book_follows : (notification : Notification) (b : Contents) → Holds rest ready kinds d i t k f me x
+          → priorities i.front.events (called_on notification) ≢ []
+          → IsOf b (after_notification (dataless f) k notification)
+          → IsOf b (dataless (with_event f (event_of_notification k notification x.state f)))
+      book_follows (One c) b h some o = book_notified c b h some o
+      book_follows (All c) b h some o = book_all_called c b h some o
 
       -- and the place inside is as the call ensures
-      pub noted : (notice : Notice) {z : PlaceId} {s : D} {me' : SeatState D} (is : is_alone me'.0 ≡ true)
-          → Holds rest ready kinds d i t k f me x → Notes rest ready (event_of_notice k notice x.state f) k f
-          → z ≡ t → s ≡ x.state → me' ≡ (alone k (with_event f (event_of_notice k notice x.state f)), (0, None) ∷ [])
-          → Noted rest ready kinds d i notice (place_in z k (front_of me'.0 is) s)
-      noted notice {z = z} {s = s} {me' = me'} is h n table same now =
-          let e : Event D = event_of_notice k notice x.state f in
+      pub noted : (notification : Notification) {z : PlaceId} {s : D} {me' : SeatState D} (is : is_alone me'.0 ≡ true)
+          → Holds rest ready kinds d i t k f me x
+          → Notes rest ready (event_of_notification k notification x.state f) k f → z ≡ t → s ≡ x.state
+          → me' ≡ (alone k (with_event f (event_of_notification k notification x.state f)), (0, None) ∷ [])
+          → Noted rest ready kinds d i notification (place_in z k (front_of me'.0 is) s)
+      noted notification {z = z} {s = s} {me' = me'} is h n table same now =
+          let e : Event D = event_of_notification k notification x.state f in
           let w = h.within in
           let sizes = sizes-with f f e (sizes_at kinds d.places) (Begins-refl f) w.sized in
-          at_front (λ (g : History D). Noted rest ready kinds d i notice (place_in z k g s)) me' is
+          at_front (λ (g : History D). Noted rest ready kinds d i notification (place_in z k g s)) me' is
           k (with_event f e) ((0, None) ∷ []) now (record {
             of = record {
               of = table ∙ w.of;
@@ -180,5 +183,7 @@ module _ {D : Type 0} where
             };
             place = ap (λ (v : PlaceIn D). v.place) h.seen;
             data_are = same ∙ ap (λ (v : PlaceIn D). v.state) h.seen;
-            front = ap (λ (v : PlaceIn D). with_event v.front (event_of_notice v.place notice v.state v.front)) h.seen;
+            front =
+                ap (λ (v : PlaceIn D). with_event v.front (event_of_notification v.place notification v.state v.front))
+                h.seen;
           })

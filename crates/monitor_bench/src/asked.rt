@@ -68,7 +68,7 @@ pub enum Measured {
     Buffers(DoorKind),
     /// A full book of queues.
     Book,
-    /// A book under other loads.
+    /// A book with other numbers of waiters, orders of priorities, and calls.
     BookOrders,
 }
 
@@ -82,7 +82,7 @@ fn is_word(word: String, wanted: &str, words: &mut Args) -> (bool, String) {
     }
 }
 
-// Returns which measures of a book are asked for, and the word after the options.
+// Returns which measures of a book are asked for, and the word after the options, or the last option if there is none.
 fn asked_of_book(word: String, words: &mut Args) -> (Measured, String) {
     let (of_orders, word) = is_word(word, "--orders", words);
     let measured = if of_orders {
@@ -93,7 +93,8 @@ fn asked_of_book(word: String, words: &mut Args) -> (Measured, String) {
     (measured, word)
 }
 
-// Returns which measures of a monitor are asked for, and the word after the options.
+// Returns which measures of a monitor are asked for, and the word after the options, or the last option if there is
+// none.
 fn asked_of_monitor(word: String, words: &mut Args) -> (Measured, String) {
     let (of_tickets, word) = is_word(word, "--ticket", words);
     let kind = if of_tickets {

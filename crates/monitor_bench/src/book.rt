@@ -6,7 +6,7 @@ use std::rt::Clock;
 use std::time::Duration;
 use wait_book::book::{Book, MOST_CONDITIONS, MOST_PLACES};
 
-// Returns the time of each of `count` steps, in whole nanoseconds.
+// Returns the time of each of `count` steps, in whole nanoseconds, rounded down.
 fn each(spent: Duration, count: u64) -> u128 {
     spent.as_nanos() / u128::from(count.max(1))
 }
@@ -63,7 +63,7 @@ fn measure_order<R: Print + Clock>(
     )
 }
 
-// Measures the figures of an order, with few, some and all places waiting.
+// Measures the figures of an order, with 1, 8 and 63 places waiting, and prints them.
 fn measure_each<R: Print + Clock>(
     rt: &R,
     book: &mut Book,
@@ -86,8 +86,8 @@ fn measure_orders<R: Print + Clock>(rt: &R, book: &mut Book, rounds: u64) -> io:
     println!(rt; "size {} bytes", size_of::<Book>())
 }
 
-// Returns the time of each call on a number of waiters, in nanoseconds. It includes two reads of the clock for each
-// round: for each broadcast or count, or for the notifies of all waiters.
+// Returns the time of each call on a number of waiters, in nanoseconds. The measured time of each round, which has one
+// broadcast, one count, or a notify for each waiter, includes that of one read of the clock.
 fn measure_call<R: Print + Clock>(
     rt: &R,
     book: &mut Book,
@@ -99,7 +99,8 @@ fn measure_call<R: Print + Clock>(
     Ok(each(spent, calls))
 }
 
-// Measures the figures of notifies and broadcasts, and of counts, on a book whose conditions are Mesa conditions.
+// Measures the figures of notifies, broadcasts and counts on a book whose conditions are Mesa conditions, and prints
+// them.
 fn measure_calls<R: Print + Clock>(rt: &R, book: &mut Book, rounds: u64) -> io::Result<()> {
     let notify = measure_call(rt, book, Call::Notify, 63, rounds)?;
     tell_nanos(rt, "book_notify", notify)?;
@@ -112,7 +113,7 @@ fn measure_calls<R: Print + Clock>(rt: &R, book: &mut Book, rounds: u64) -> io::
     Ok(())
 }
 
-// Creates a book of the most places and conditions, of which the last `mesa` are Mesa conditions.
+// Creates a book of 64 places and 8 conditions. The last `mesa` conditions are Mesa conditions.
 fn full_book(alloc: Global, mesa: usize) -> anyhow::Result<Book> {
     match Book::make(alloc, MOST_PLACES, MOST_CONDITIONS, mesa) {
         Ok(book) => Ok(book),
@@ -120,8 +121,9 @@ fn full_book(alloc: Global, mesa: usize) -> anyhow::Result<Book> {
     }
 }
 
-/// Measures the figures of a full book, or with `of_orders` those of all orders, and of notifies, broadcasts and
-/// counts, and prints a line for each. Returns an error if out of memory, if the clock fails or if printing fails.
+/// Measures the figures of a full book, or with `of_orders` those of all orders, of the clock, and of notifies,
+/// broadcasts and counts, and prints a line for each; with `of_orders` also one with the size of a book. Returns an
+/// error if out of memory, if the clock fails or if printing fails.
 pub fn measure<R: Print + Clock>(
     rt: &R,
     alloc: Global,

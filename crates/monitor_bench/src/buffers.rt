@@ -16,8 +16,8 @@ enum Conditions {
     Mesa,
 }
 
-// The order of the rows: each half is the other with the kinds exchanged. So what a row finds, such as the room that
-// the rows before it left in memory, isn't different for one kind.
+// The order of the rows: each half is the other with the kinds exchanged. So what earlier rows leave behind, such as
+// free room in memory, affects neither kind more than the other.
 const IN_TURN: [Conditions; 16] = [
     Conditions::Hoare,
     Conditions::Mesa,
@@ -47,8 +47,8 @@ struct Spent {
     mesa: Duration,
 }
 
-// Measures the rows at this number of places, half of which append `items` items each. Returns how long all rows of
-// each kind took.
+// Measures the rows at this number of places. Half of these append `items` items each, and the others remove them.
+// Returns how long all rows of each kind took.
 fn in_turn<R: Clock + Threads + Wait + Sync>(
     rt: &R,
     alloc: Global,
@@ -74,8 +74,8 @@ fn in_turn<R: Clock + Threads + Wait + Sync>(
 }
 
 /// Measures the rows of the buffers in turn, on a door of this kind, and prints a line for each figure. Half of the
-/// threads append `turns` / 100 items each. A row is run before them, and isn't counted. Returns an error if out of
-/// memory, if the clock fails or if printing fails.
+/// threads append `turns` / 100 items each, and the others remove them. One more row is run first, and isn't counted.
+/// Returns an error if out of memory, if the clock fails or if printing fails.
 pub fn measure<R: Print + Eprint + Clock + Threads + Wait + Sync>(
     rt: &R,
     alloc: Global,

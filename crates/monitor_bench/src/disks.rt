@@ -1,4 +1,5 @@
-//! What a release of the disk head takes while others wait at other cylinders of the sweep, over any monitor.
+//! What a release of the disk head takes while others wait for other cylinders of the sweep, and what a request and a
+//! release take if no process waits, over any monitor.
 ghost use Rattle.std.specs.Prelude.{All, IfOk};
 
 use crate::opening::last_place;
@@ -23,18 +24,18 @@ impl SharedDisk for Door<Head<u64>> {}
 
 impl SharedDisk for TicketDoor<Head<u64>> {}
 
-// What the threads of a disk know of each other.
+// What the threads of a disk share beside the monitor.
 #[derive(Drop)]
 struct Rounds {
-    // How many threads know their cylinder.
+    // How many threads have taken a cylinder: the next thread takes the cylinder of this number.
     cylinders: AtomicU64,
     // True if the next release at cylinder 1 is the first of an upsweep.
     is_first: AtomicBool,
-    // True if the last round is over.
+    // True if the last upsweep has begun, by a release at cylinder 0.
     done: AtomicBool,
 }
 
-// Takes the drive to the cylinder and releases it. Returns how long the release took.
+// Takes the drive to cylinder `dest` and releases it. Returns the place, and how long the release took.
 fn visit<R: Wait + Clock, M: Monitor<Head<u64>>>(
     rt: &R,
     m: &M,
@@ -53,7 +54,7 @@ fn visit<R: Wait + Clock, M: Monitor<Head<u64>>>(
     Ok((out, spent))
 }
 
-// Takes the drive to the cylinder and releases it, until the rounds are over. Returns no time.
+// Takes the drive to cylinder `dest` and releases it, until the last upsweep has begun. Returns a time of 0.
 fn visit_many<R: Wait + Clock, M: Monitor<Head<u64>>>(
     rt: &R,
     m: &M,
@@ -74,8 +75,8 @@ fn visit_many<R: Wait + Clock, M: Monitor<Head<u64>>>(
     unreachable!()
 }
 
-// Takes the drive to cylinder 1 and releases it, until the rounds are over. Returns how long the releases took that
-// were the first of an upsweep.
+// Takes the drive to cylinder 1 and releases it, until the last upsweep has begun. Returns how long those releases took
+// that were the first of an upsweep, all together.
 fn visit_first<R: Wait + Clock, M: Monitor<Head<u64>>>(
     rt: &R,
     m: &M,
@@ -98,7 +99,7 @@ fn visit_first<R: Wait + Clock, M: Monitor<Head<u64>>>(
     unreachable!()
 }
 
-// Enters and leaves until at least `others` processes wait for the upsweep.
+// Enters and leaves until at least `others` processes wait for the upsweep, and yields in between.
 fn line_up<R: Wait, M: Monitor<Head<u64>>>(rt: &R, m: &M, out: M::Out, others: usize) -> M::Out
     requires { M.is_of m.now out }
     ensures { M.is_of m.now result }
@@ -116,7 +117,8 @@ fn line_up<R: Wait, M: Monitor<Head<u64>>>(rt: &R, m: &M, out: M::Out, others: u
     unreachable!()
 }
 
-// At cylinder 0: starts each upsweep when all others wait for it, `turns` times. Returns no time.
+// Takes the drive to cylinder 0, and begins an upsweep by its release once `others` processes wait for it, `turns`
+// times. Returns a time of 0.
 fn start_upsweeps<R: Wait, M: Monitor<Head<u64>>>(
     rt: &R,
     m: &M,
@@ -140,8 +142,8 @@ fn start_upsweeps<R: Wait, M: Monitor<Head<u64>>>(
     Ok(Duration::ZERO)
 }
 
-// The first place to start begins the upsweeps, the releases of the second are measured, and the others wait meanwhile.
-// Returns how long the measured releases took.
+// The first thread to start begins the upsweeps, and the releases of the second are measured while the others wait for
+// the upsweep. Returns how long the measured releases took.
 fn sweep_many<R: Threads + Wait + Clock + Sync, M: SharedDisk>(
     rt: &R,
     m: &M,
@@ -182,16 +184,16 @@ where
 /// What the threads of a disk do.
 #[derive(Clone, Copy)]
 pub enum DiskLoad {
-    /// One thread takes the drive to the next cylinder and releases it.
+    /// One thread takes the drive to the next cylinder and releases it, again and again.
     Alone,
     /// Releases of the drive at cylinder 1 are measured. Each is the first of an upsweep on which all but two of the
     /// places wait.
     Sweeping,
 }
 
-/// Lets the threads of a disk do their load, `turns` times. Returns how long that took, with `Sweeping` the measured
-/// releases alone. Returns an error if out of memory, if there is no place, if the clock fails, or if a request or a
-/// release is refused.
+/// Lets the threads of a disk do their load, `turns` times. Returns how long that took; for `Sweeping`, how long the
+/// measured releases alone took. Returns an error if out of memory, if there is no place for `Alone`, if the clock
+/// fails, or if a request or a release is refused.
 pub fn work_disk<R: Threads + Wait + Clock + Sync, M: SharedDisk>(
     rt: &R,
     m: &M,

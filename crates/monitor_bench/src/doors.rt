@@ -1,5 +1,6 @@
-//! What is measured with threads, over any monitor. Every place has a thread of its own. The threads take their roles
-//! in the order in which they start.
+//! What is measured with threads, over any monitor. With the loads `Alone` and `Tried` the calling thread alone works.
+//! With all others every place has a thread of its own, and the threads take their roles in the order in which they
+//! start.
 ghost use Rattle.std.specs.Prelude.{All};
 
 use crate::fairness::{Others, count_others};
@@ -45,7 +46,7 @@ impl SharedBuffer for Door<Buffer<u64>> {}
 
 impl SharedBuffer for TicketDoor<Buffer<u64>> {}
 
-/// A monitor for visits of all kinds, which threads share.
+/// A monitor of the data of `mixed`, which threads share.
 pub trait SharedMixed: Monitor<Mixed> + Sync {}
 
 impl SharedMixed for Door<Mixed> {}
@@ -66,7 +67,8 @@ pub enum CounterLoad {
 }
 
 /// Lets the threads of a counter with one condition do their load, `turns` times. Returns how long that took. Returns
-/// an error if out of memory, if there are too few places, if the clock fails, or if an attempt has the wrong result.
+/// an error if out of memory, if there is no place for `Alone` or fewer than two for `Tried`, if the clock fails, or if
+/// an attempt has the wrong result. `Waiting` has to have one place more than waiters: else it may never end.
 pub fn count_with<R: Threads + Wait + Clock + Sync, M: OneShared>(
     rt: &R,
     m: &M,
@@ -98,7 +100,8 @@ pub enum WideLoad {
 }
 
 /// Lets the threads of a counter with eight conditions do their load, `turns` times. Returns how long that took.
-/// Returns an error if out of memory, if there is no place, or if the clock fails.
+/// Returns an error if out of memory, if there is no place for `Alone`, or if the clock fails. `Chained` has to have
+/// nine places: else it may never end.
 pub fn count_widely<R: Threads + Wait + Clock + Sync, M: EightShared>(
     rt: &R,
     m: &M,
@@ -118,7 +121,7 @@ where
     start.elapsed(rt)
 }
 
-// Threads enter, add one and leave, `turns` times each.
+// All threads enter, add one and leave, `turns` times each.
 fn contended<R: Threads + Wait + Sync, M: OneShared>(
     rt: &R,
     m: &M,
@@ -139,8 +142,8 @@ where
     Ok(())
 }
 
-// One thread at the last of the places enters, adds one and leaves, `turns` times. Returns an error if there is no
-// place.
+// The calling thread enters at the last of the places, adds one and leaves, `turns` times. Returns an error if there is
+// no place.
 fn alone<const N: usize, R: Wait, M: Monitor<Unconstrained<u64, N>>>(
     rt: &R,
     m: &M,
@@ -185,7 +188,8 @@ where
     Ok(())
 }
 
-// A chain of signallers, eight deep, `turns` times: each signals the next, and all return in turn.
+// A chain of signallers, eight deep, `turns` times: the last thread to start signals the first of eight links, each
+// link but the last signals the next, and all signallers return in turn.
 fn chained<R: Threads + Wait + Sync, M: EightShared>(
     rt: &R,
     m: &M,
@@ -214,7 +218,7 @@ where
     Ok(())
 }
 
-// Half of the threads append to a buffer, the others remove, `turns` times each.
+// Half of the threads append to a buffer, and the others remove, `turns` times each.
 fn buffered<R: Threads + Wait + Sync, M: SharedBuffer>(
     rt: &R,
     m: &M,
@@ -253,7 +257,8 @@ pub enum BufferLoad {
 }
 
 /// Lets the threads of a buffer do their load, `turns` times each. Returns how long that took. Returns an error if out
-/// of memory, if there is no place, or if the clock fails.
+/// of memory, if there is no place for `Alone`, or if the clock fails. `Shared` has to have an even number of places:
+/// else it may never end.
 pub fn work_buffer<R: Threads + Wait + Clock + Sync, M: SharedBuffer>(
     rt: &R,
     m: &M,
@@ -273,8 +278,8 @@ where
     start.elapsed(rt)
 }
 
-/// Threads mix all calls, `turns` times each; the last to start resumes waiters until the others are done. Returns how
-/// long that took. Returns an error if out of memory or if the clock fails.
+/// Eight threads wait, signal, pass and leave, in `turns` visits each; a ninth, the last to start, resumes waiters
+/// until the others are done. Returns how long that took. Returns an error if out of memory or if the clock fails.
 pub fn mixed<R: Threads + Wait + Clock + Sync, M: SharedMixed>(
     rt: &R,
     m: &M,
@@ -297,7 +302,7 @@ where
     start.elapsed(rt)
 }
 
-/// Threads enter and leave, `turns` times each. Returns for each what it met, or an error if out of memory.
+/// All threads enter and leave, `turns` times each. Returns what each of them met, or an error if out of memory.
 pub fn met<R: Threads + Wait + Sync, M: OneShared>(
     rt: &R,
     m: &M,

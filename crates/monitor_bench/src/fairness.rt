@@ -1,5 +1,4 @@
-//! How many others are admitted between two visits of a place, with eight threads that enter and leave, each again as
-//! soon as it is outside.
+//! How many others are admitted between two visits of a place, with threads that enter again as soon as they have left.
 use crate::tries::Counter;
 use hoare_law::monitor::Monitor;
 use std::io;
@@ -28,7 +27,7 @@ impl Others {
         }
     }
 
-    // Returns the record with one more visit, before which `others` others were admitted.
+    // Returns the record with one more visit. Since the visit before it others were admitted `others` times.
     fn after(self, others: u64) -> Others {
         Others {
             largest: self.largest.max(others),
@@ -38,8 +37,8 @@ impl Others {
         }
     }
 
-    /// Prints a line for each figure: the most, the mean, and the share of visits before which no other was admitted,
-    /// in percent. Returns an error if printing fails.
+    /// Prints a line for each figure: the most admissions, their mean, rounded down to hundredths, and the share of
+    /// visits before which no other was admitted, in whole percent, rounded down. Returns an error if printing fails.
     pub fn show<R: Print>(&self, rt: &R) -> io::Result<()> {
         let visits = u128::from(self.visits.max(1));
         let mean = u128::from(self.sum) * 100 / visits;
@@ -60,7 +59,7 @@ impl Others {
     }
 }
 
-/// Enters and leaves, `turns` times. Returns what the place met. The data count the admissions.
+/// Enters and leaves, `turns` times. Returns what the place met. The data count the admissions of all places.
 pub fn count_others<R: Wait, M: Monitor<Counter>>(rt: &R, m: &M, out: M::Out, turns: u64) -> Others
     requires { M.is_of m.now out }
 {

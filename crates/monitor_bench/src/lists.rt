@@ -19,7 +19,7 @@ pub enum Load {
     Buffer(BufferLoad),
     /// A buffer with Mesa conditions, which threads share.
     MesaBuffer,
-    /// Visits of all kinds.
+    /// Visits that wait, signal, pass or leave.
     Mixed,
     /// A single item.
     Single,
@@ -44,7 +44,7 @@ pub struct Row {
     pub load: Load,
     /// Divisor of TURNS: the load is done TURNS / `part` times.
     pub part: u64,
-    /// Number of acts each time. The figure is the time of one act.
+    /// Number of acts each time that the load is done. The figure is the time of one act.
     pub acts: u64,
 }
 
@@ -80,8 +80,8 @@ const LAST_OF_POOL: Load = Load::Pool(MOST_BUFFERS, MOST_BUFFERS - 1);
 
 const SLEEPING: Load = Load::Alarm(AlarmLoad::Sleeping);
 
-/// The rows of the monitor itself: places that enter and leave, that hand the monitor to each other, many waiters, and
-/// attempts to enter.
+/// The rows of the monitor itself: places that enter and leave, hand-offs, buffers, many waiters, a chain of
+/// signallers, a mixed load, and attempts to enter.
 pub const MONITOR: &[Row] = &[
     row!("enter_leave", 1, ALONE, 1, 1),
     row!("enter_leave_2", 2, CONTENDED, 10, 2),
@@ -100,8 +100,9 @@ pub const MONITOR: &[Row] = &[
     row!("try_enter_no", 2, TRIED_HELD, 1, 1),
 ];
 
-/// The rows of the schedulers: what their procedures take if no process waits, what a sleep of one tick takes, and what
-/// a release takes while others wait. For a pair of procedures that undo each other there is one figure.
+/// The rows of the schedulers, beside `enter_leave`: what their procedures take if no process waits, what a sleep of
+/// one tick takes, and what a release takes while others wait. A pair of procedures that undo each other has one
+/// figure.
 pub const SCHEDULERS: &[Row] = &[
     row!("enter_leave", 1, ALONE, 1, 1),
     row!("acquire_release", 1, Load::Single, 1, 1),

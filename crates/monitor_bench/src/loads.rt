@@ -6,7 +6,7 @@ use std::time::{Duration, Instant};
 use wait_book::book::Book;
 use wait_book::steps::{Next, Step};
 
-// The last place, which signals the others.
+// The last place, which signals or notifies the others.
 const SIGNALLER: u64 = 63;
 
 /// The order of the priorities of the waiters, one after the other.
@@ -66,8 +66,8 @@ impl Load {
         }
     }
 
-    // The last place signals each condition in turn until no place waits. Each resumed place leaves. Returns how many
-    // were resumed.
+    // The last place enters, signals `waiters` times, each condition in turn, so that no place waits in the end, and
+    // leaves. Each resumed place leaves at once. Returns how many were resumed.
     fn signal_and_leave(self, book: &mut Book) -> u64 {
         let mut resumed = 0u64;
         let _entered = book.try_step(Step::Enter(SIGNALLER));
@@ -90,14 +90,14 @@ impl Load {
 pub struct Spent {
     /// How long the places took to enter and wait, over all rounds.
     pub waits: Duration,
-    /// How long the signals took then, until all places were outside, over all rounds.
+    /// How long the signals and leaves took after the waits, until all places were outside, over all rounds.
     pub signals: Duration,
     /// How many places were resumed, over all rounds.
     pub resumed: u64,
 }
 
 impl Spent {
-    /// Before the first round.
+    /// The sums before the first round: all are 0.
     pub const NONE: Spent = Spent {
         waits: Duration::ZERO,
         signals: Duration::ZERO,
@@ -129,7 +129,8 @@ pub fn spend<R: Clock>(rt: &R, book: &mut Book, load: Load, rounds: u64) -> io::
     Ok(spent)
 }
 
-/// Lets 63 places enter and leave, `rounds` times. Returns how long that took, or an error if the clock fails.
+/// Lets 63 places enter and leave, one after another, `rounds` times. Returns how long that took, or an error if the
+/// clock fails.
 pub fn come_and_go<R: Clock>(rt: &R, book: &mut Book, rounds: u64) -> io::Result<Duration> {
     let start = Instant::now(rt)?;
     for round in 0..rounds.saturating_mul(SIGNALLER) {
@@ -141,7 +142,7 @@ pub fn come_and_go<R: Clock>(rt: &R, book: &mut Book, rounds: u64) -> io::Result
 }
 
 /// Reads the clock twice in each of `rounds` rounds, as for each figure of a load, and does nothing between. Returns
-/// how long that took, or an error if the clock fails.
+/// the sum of the times from the first read to the second, or an error if the clock fails.
 pub fn look_at_clock<R: Clock>(rt: &R, rounds: u64) -> io::Result<Duration> {
     let mut spent = Duration::ZERO;
     for _ in 0..rounds {
@@ -163,7 +164,8 @@ pub enum Call {
 }
 
 impl Call {
-    // The last place, which is inside, does this with the waiters on condition 0. Returns how many calls it made.
+    // The last place, which is inside, does this with the waiters on condition 0. Returns how many calls it made, but 0
+    // for a count that finds no waiter.
     fn make(self, book: &mut Book, waiters: u64) -> u64 {
         match self {
             Call::Notify => {

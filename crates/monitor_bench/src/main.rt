@@ -1,13 +1,13 @@
 //! Measures what the calls cost.
 //!
-//! - `monitor_bench` without arguments names its measurements.
-//! - `monitor_bench TURNS` takes them on the baton door, and prints a line `NAME VALUE ns` for each, with other units
-//!   for how many others enter. Its progress is on standard error. With `--ticket` before, it takes them on the ticket
-//!   door.
-//! - With `--schedulers` before TURNS it takes those of the schedulers' procedures; with `--buffers` those of the
+//! - `monitor_bench` without arguments prints the names of its measurements, and how it is called.
+//! - `monitor_bench TURNS` measures the monitor itself on the baton door, and prints a line `NAME VALUE ns` for each
+//!   figure, with other units for how many others enter. Its progress is on standard error. With `--ticket` as the
+//!   first argument it measures on the ticket door.
+//! - With `--schedulers` right before TURNS it measures the schedulers' procedures instead; with `--buffers` the
 //!   buffers with conditions of either kind in turn.
-//! - `monitor_bench --book TURNS` takes those of the book of queues alone. With `--orders` before TURNS it takes those
-//!   of other loads on it, and its size in bytes.
+//! - `monitor_bench --book TURNS` measures the book of queues alone. With `--orders` before TURNS it measures other
+//!   loads on the book, the clock, and the size of a book in bytes.
 #![tactic(auto)]
 
 mod asked;
@@ -47,15 +47,15 @@ fn each(spent: Duration, count: u64) -> u128 {
     hundredths.saturating_add(count / 2) / count
 }
 
-// Prints the line of a figure, the time of each of `count` acts in nanoseconds, and on standard error that it was
-// taken.
+// Prints on standard error that a figure was taken, and then its line: the time of each of `count` acts in
+// nanoseconds.
 fn tell<R: Print + Eprint>(rt: &R, name: &str, spent: Duration, count: u64) -> io::Result<()> {
     let one = each(spent, count);
     eprintln!(rt; "monitor_bench: {name} taken")?;
     println!(rt; "{name} {}.{:02} ns", one / 100, one % 100)
 }
 
-// Measures how many others enter between two visits of each of eight places, and prints a line for each figure.
+// Measures how many others enter between two visits of a place, with eight places, and prints a line for each figure.
 fn measure_others<R: Print + Threads + Wait + Sync>(
     rt: &R,
     alloc: Global,
@@ -66,7 +66,7 @@ fn measure_others<R: Print + Threads + Wait + Sync>(
     all_met(&found).show(rt)
 }
 
-// Measures all rows of the monitor itself, and prints a line for each.
+// Measures all rows of the monitor itself, then how many others enter, and prints a line for each figure.
 fn measure<R: Print + Eprint + Clock + Threads + Wait + Sync>(
     rt: &R,
     alloc: Global,

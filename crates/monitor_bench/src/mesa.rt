@@ -43,8 +43,8 @@ fn remove_many<R: Wait, M: Monitor<MesaBuffer<u64>>>(rt: &R, m: &M, out: M::Out,
     sum
 }
 
-/// Half of the threads append, the others remove, `turns` times each. Returns how long that took, or an error if out of
-/// memory or if the clock fails.
+/// Half of the threads append, and the others remove, `turns` times each. Returns how long that took, or an error if
+/// out of memory or if the clock fails.
 pub fn mesa_buffered<R: Threads + Wait + Clock + Sync, M: SharedMesaBuffer>(
     rt: &R,
     m: &M,

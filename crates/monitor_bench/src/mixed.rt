@@ -1,5 +1,5 @@
-//! Nine threads that mix all calls. Eight wait with priorities, signal, pass and leave on three conditions, by a fixed
-//! row of numbers. The ninth resumes waiters until the eight are done.
+//! Nine threads that mix their calls. Eight wait with priorities, signal, pass and leave on three conditions, each by a
+//! fixed row of numbers. The ninth resumes waiters, by passes, until the eight are done.
 ghost use Rattle.std.specs.Prelude.{◌<◌};
 
 use hoare_law::monitor::Monitor;
@@ -8,19 +8,19 @@ use hoare_law::waits::Waits;
 use std::sync::Wait;
 use std::thread;
 
-/// Number of threads that mix the calls.
+/// Number of workers: the threads that wait, signal, pass and leave.
 pub const WORKERS: u64 = 8;
 
-/// How often workers entered or came back from a call, and how many workers are done.
+/// How often workers entered for a visit or came back from a call, and how many workers are done.
 #[derive(Drop)]
 pub struct Visits {
-    /// How often a worker entered, or came back from a wait or a signal.
+    /// How often a worker entered for a visit, or came back from a wait or a signal.
     pub visits: u64,
     /// How many workers are done.
     pub finished: u64,
 }
 
-/// The data of their monitor, with three conditions.
+/// The data of the monitor that the nine threads share. It has three conditions.
 pub type Mixed = Unconstrained<Visits, 3>;
 
 // Returns the number after `seed` in a row of numbers without a visible pattern.
@@ -59,7 +59,7 @@ fn leave<R: Wait, M: Monitor<Mixed>>(rt: &R, m: &M, inside: M::In) -> M::Out
     m.leave(rt, inside)
 }
 
-// Makes one visit of a worker: it waits, signals, passes or just leaves.
+// Makes one visit of a worker, by the number `lot`: it waits, signals, passes or just leaves.
 fn visit<R: Wait, M: Monitor<Mixed>>(rt: &R, m: &M, out: M::Out, lot: u64) -> M::Out
     requires { M.is_of m.now out }
     ensures { M.is_of m.now result }
@@ -79,7 +79,7 @@ fn visit<R: Wait, M: Monitor<Mixed>>(rt: &R, m: &M, out: M::Out, lot: u64) -> M:
     out
 }
 
-// Makes `turns` visits, and notes that this worker is done.
+// Makes `turns` visits, by numbers that begin with `me`, then enters once more and counts this worker as done.
 fn visit_many<R: Wait, M: Monitor<Mixed>>(rt: &R, m: &M, out: M::Out, me: u64, turns: u64)
     requires { M.is_of m.now out }
 {
@@ -95,7 +95,7 @@ fn visit_many<R: Wait, M: Monitor<Mixed>>(rt: &R, m: &M, out: M::Out, me: u64, t
     m.leave(rt, inside);
 }
 
-// Resumes waiters until all workers are done.
+// Resumes waiters, by passes on each condition in turn, until all workers are done.
 fn sweep<R: Wait, M: Monitor<Mixed>>(rt: &R, m: &M, out: M::Out)
     requires { M.is_of m.now out }
 {

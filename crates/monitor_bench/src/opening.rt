@@ -20,7 +20,7 @@ pub enum DoorKind {
     Ticket,
 }
 
-/// Returns the error that is reported if out of memory.
+/// Returns the error that reports out of memory. It also reports a refused door or buffer, and a missing place.
 pub fn no_memory() -> io::Error {
     io::Error::from(AllocError)
 }

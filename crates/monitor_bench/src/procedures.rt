@@ -1,6 +1,6 @@
 //! What one thread does with the procedures of the schedulers, over any monitor: it calls a pair of them `turns` times.
-//! A refusal ends it. Each function that returns a time returns an error if it is given no place, if the clock fails,
-//! or if a procedure other than the end of a read is refused.
+//! Each function that returns a time returns an error if it is given no place, if the clock fails, or if a procedure
+//! other than the end of a read is refused. If the end of a read is refused, it never returns.
 ghost use Rattle.std.specs.Prelude.{All, IfOk};
 
 use crate::opening::last_place;
@@ -38,7 +38,7 @@ pub fn acquire_release<R: Wait + Clock, M: Monitor<Single<u64>>>(
     Ok(start.elapsed(rt)?)
 }
 
-/// Appends the numbers below `turns`, and removes each again.
+/// Appends the numbers below `turns`, and removes each before it appends the next.
 pub fn append_remove<R: Wait, M: Monitor<Buffer<u64>>>(rt: &R, m: &M, out: M::Out, turns: u64)
     requires { M.is_of m.now out }
 {
@@ -69,8 +69,8 @@ fn take_many<R: Wait, M: Monitor<Pool>>(
     Ok(out)
 }
 
-/// Takes a buffer for stream 0 and gives it back, `turns` times, after `kept` buffers were taken that are kept. Returns
-/// how long the pairs took.
+/// Takes `kept` buffers for stream 0 and keeps them. Then takes one more and gives it back, `turns` times. Returns how
+/// long these pairs took.
 pub fn take_give<R: Wait + Clock, M: Monitor<Pool>>(
     rt: &R,
     m: &M,
@@ -91,7 +91,8 @@ pub fn take_give<R: Wait + Clock, M: Monitor<Pool>>(
     Ok(start.elapsed(rt)?)
 }
 
-/// Takes the drive to the next cylinder and releases it, `turns` times. Returns how long that took.
+/// Takes the drive to the next cylinder, from 0 on and after the last to 0 again, and releases it, `turns` times.
+/// Returns how long that took.
 pub fn request_release<R: Wait + Clock, M: Monitor<Head<u64>>>(
     rt: &R,
     m: &M,
@@ -112,8 +113,8 @@ pub fn request_release<R: Wait + Clock, M: Monitor<Head<u64>>>(
     Ok(start.elapsed(rt)?)
 }
 
-// Prints that a read can't be ended, and never returns. A pass can't be dropped, so a thread that still has a pass
-// can't return without it.
+// Prints on standard error that a read can't be ended, and never returns: the thread still has the pass, and a pass
+// can't be dropped.
 fn stay<R: Wait + Eprint + Clock>(rt: &R, refused: NoReader) -> ! {
     let _told = eprintln!(rt; "monitor_bench: end_read: {refused}");
     for _ in rt.forever() {
@@ -176,7 +177,7 @@ fn start_end_write<R: Wait, M: Monitor<ReadersWriters<u64>>>(
     Ok(())
 }
 
-/// What one thread does with the data that are read and written.
+/// What one thread does with the value that readers and writers share.
 #[derive(Clone, Copy)]
 pub enum Visit {
     /// It reads.

@@ -107,7 +107,7 @@ fn wide_row<R: Clock + Threads + Wait + Sync>(
 }
 
 /// Measures a buffer with Hoare's conditions on a door of this kind with `count` places. Returns how long the load
-/// took, done `turns` times. Returns an error if out of memory, if there is no place, or if the clock fails.
+/// took, done `turns` times. Returns an error if out of memory, if `count` isn't 1 to 64, or if the clock fails.
 pub fn buffer_row<R: Clock + Threads + Wait + Sync>(
     rt: &R,
     alloc: Global,
@@ -127,7 +127,8 @@ pub fn buffer_row<R: Clock + Threads + Wait + Sync>(
 }
 
 /// Measures a buffer with Mesa conditions that is shared by `count` threads, on a door of this kind. Returns how long
-/// the load took, done `turns` times. Returns an error if out of memory or if the clock fails.
+/// the load took, done `turns` times. Returns an error if out of memory, if `count` isn't 1 to 64, or if the clock
+/// fails.
 pub fn mesa_row<R: Clock + Threads + Wait + Sync>(
     rt: &R,
     alloc: Global,
@@ -145,7 +146,7 @@ pub fn mesa_row<R: Clock + Threads + Wait + Sync>(
     )
 }
 
-// Measures visits of all kinds.
+// Measures visits that wait, signal, pass or leave.
 fn mixed_row<R: Clock + Threads + Wait + Sync>(
     rt: &R,
     alloc: Global,
@@ -157,7 +158,7 @@ fn mixed_row<R: Clock + Threads + Wait + Sync>(
 }
 
 /// Measures how many others enter between two visits of a place, on a door of this kind with `count` places. Returns
-/// for each place what it met in `turns` visits, or an error if out of memory.
+/// for each place what it met in `turns` visits, or an error if out of memory or if `count` isn't 1 to 64.
 pub fn others_row<R: Threads + Wait + Sync>(
     rt: &R,
     alloc: Global,
@@ -252,7 +253,8 @@ fn readers_row<R: Eprint + Clock + Wait>(
     )
 }
 
-// Returns how long the row's load takes, done `turns` times.
+// Returns how long the row's load takes, done `turns` times; of a load that is measured in part, how long that part
+// takes.
 fn time_of<R: Eprint + Clock + Threads + Wait + Sync>(
     rt: &R,
     alloc: Global,

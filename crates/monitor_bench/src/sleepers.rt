@@ -22,7 +22,7 @@ impl SharedAlarm for Door<Alarm> {}
 
 impl SharedAlarm for TicketDoor<Alarm> {}
 
-// Sets the next time, `turns` times.
+// Ticks, `turns` times. Returns an error if a tick is refused.
 fn tick_many<R: Wait, M: Monitor<Alarm>>(
     rt: &R,
     m: &M,
@@ -40,7 +40,7 @@ fn tick_many<R: Wait, M: Monitor<Alarm>>(
     Ok(())
 }
 
-// Sleeps for `ticks` ticks, `turns` times.
+// Sleeps for `ticks` ticks, `turns` times. Returns an error if a sleep is refused.
 fn sleep_many<R: Wait, M: Monitor<Alarm>>(
     rt: &R,
     m: &M,
@@ -59,10 +59,10 @@ fn sleep_many<R: Wait, M: Monitor<Alarm>>(
     Ok(())
 }
 
-// What one thread calls again and again.
+// Which procedure of the alarm clock one thread calls again and again.
 #[derive(Clone, Copy)]
 enum AlarmCall {
-    // A tick, which sets the next time.
+    // A tick, which advances the clock.
     Tick,
     // A sleep of no tick, which returns at once.
     WakeAtOnce,
@@ -86,8 +86,8 @@ fn call_alarm<R: Wait + Clock, M: Monitor<Alarm>>(
     Ok(start.elapsed(rt)?)
 }
 
-// Ticks whenever all sleepers that aren't done sleep, until all are done. (At the last time no thread sleeps: so no
-// thread is left asleep if the tick is refused.)
+// Ticks whenever all sleepers that aren't done sleep, until all are done. (A tick is refused only at the last time, at
+// which no thread sleeps. So a refusal leaves no thread asleep.)
 fn tick_all<R: Wait, M: Monitor<Alarm>>(
     rt: &R,
     m: &M,
@@ -117,8 +117,8 @@ fn tick_all<R: Wait, M: Monitor<Alarm>>(
     unreachable!()
 }
 
-// All threads but the last to start sleep until the next tick, `turns` times each. The last ticks whenever all of them
-// sleep. Returns how long that took.
+// All threads but the last to start sleep until the next tick, `turns` times each. The last ticks whenever all sleepers
+// that aren't done sleep. Returns how long that took.
 fn sleep_and_tick<R: Threads + Wait + Clock + Sync, M: SharedAlarm>(
     rt: &R,
     m: &M,
@@ -156,7 +156,7 @@ where
 /// What the threads of an alarm clock do.
 #[derive(Clone, Copy)]
 pub enum AlarmLoad {
-    /// One thread sets the next time.
+    /// One thread ticks.
     Ticking,
     /// One thread asks for a sleep of no tick, which returns at once.
     WakingAtOnce,
@@ -165,7 +165,8 @@ pub enum AlarmLoad {
 }
 
 /// Lets the threads of an alarm clock do their load, `turns` times. Returns how long that took. Returns an error if out
-/// of memory, if there is no place, if the clock fails, or if a tick or a sleep is refused.
+/// of memory, if there is no place for `Ticking` or `WakingAtOnce`, if the clock fails, or if a tick or a sleep is
+/// refused.
 pub fn work_alarm<R: Threads + Wait + Clock + Sync, M: SharedAlarm>(
     rt: &R,
     m: &M,

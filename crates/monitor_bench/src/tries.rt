@@ -68,8 +68,9 @@ pub enum Found {
     Held,
 }
 
-/// Makes `turns` attempts at one of two places. Returns how long that took. Returns an error if there are fewer than
-/// two places, if the clock fails, or if an attempt succeeded or failed against `found`.
+/// Makes `turns` attempts at one of two places. Returns how long that took, with one enter and one leave more. Returns
+/// an error if there are fewer than two places, if the clock fails, or if an attempt succeeded or failed against
+/// `found`.
 pub fn tried<R: Wait + Clock, M: Monitor<Counter>>(
     rt: &R,
     m: &M,

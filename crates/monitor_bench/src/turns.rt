@@ -25,7 +25,7 @@ pub fn add_many<const N: usize, R: Wait, M: Monitor<Unconstrained<u64, N>>>(
     }
 }
 
-/// Waits on condition 0 with `priority`, `turns` times.
+/// Enters, waits on condition 0 with `priority`, `turns` times, and leaves.
 pub fn wait_many<const N: usize, R: Wait, M: Monitor<Unconstrained<u64, N>>>(
     rt: &R,
     m: &M,
@@ -43,7 +43,7 @@ pub fn wait_many<const N: usize, R: Wait, M: Monitor<Unconstrained<u64, N>>>(
     m.leave(rt, inside);
 }
 
-/// Signals condition 0 until `turns` processes were resumed.
+/// Enters, signals condition 0 if a process waits there, and leaves, until `turns` processes were resumed.
 pub fn signal_many<const N: usize, R: Wait, M: Monitor<Unconstrained<u64, N>>>(
     rt: &R,
     m: &M,
@@ -71,7 +71,8 @@ pub fn signal_many<const N: usize, R: Wait, M: Monitor<Unconstrained<u64, N>>>(
     unreachable!()
 }
 
-/// Waits on `condition` and then signals the next, `turns` times, as a link of a chain. The last link doesn't signal.
+/// Enters, waits on `condition`, signals the next condition and leaves, `turns` times, as a link of a chain. The link
+/// of the last condition doesn't signal.
 pub fn link_many<const N: usize, R: Wait, M: Monitor<Unconstrained<u64, N>>>(
     rt: &R,
     m: &M,
@@ -96,7 +97,7 @@ pub fn link_many<const N: usize, R: Wait, M: Monitor<Unconstrained<u64, N>>>(
     }
 }
 
-// Returns true if a process waits on each condition.
+// Returns true if at least one process waits on every condition.
 fn is_chain_ready<const N: usize, M: Monitor<Unconstrained<u64, N>>>(m: &M, inside: &M::In) -> bool
     requires { M.is_of_in m.now inside.now }
 {
@@ -104,7 +105,7 @@ fn is_chain_ready<const N: usize, M: Monitor<Unconstrained<u64, N>>>(m: &M, insi
     (0..N).all(|c| lists.count(c) > 0)
 }
 
-/// Signals the first link of a chain when all its links wait, `turns` times.
+/// Signals the first link of a chain each time that all links wait, `turns` times.
 pub fn pull_many<const N: usize, R: Wait, M: Monitor<Unconstrained<u64, N>>>(
     rt: &R,
     m: &M,

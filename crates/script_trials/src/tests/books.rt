@@ -14,13 +14,13 @@ use std::process::Abort;
 use wait_book::book::Book;
 use wait_book::steps::Step;
 
-// Creates a book with these sizes, in which nothing has happened.
+// Creates a book with these sizes, in which nothing has happened. Fails the test if it is refused.
 fn made<R: Abort + AllocGlobal>(rt: &R, places: usize, conditions: usize, mesa: usize) -> Book {
     Book::make(rt.alloc(), places, conditions, mesa).expect(rt, "a book")
 }
 
-// Does a step, the one with this number, on the book and on the list of events, which forgets them when all places are
-// outside. Fails if their answers differ.
+// Does the step with this number on the book and on the list of events, and fails if their answers differ. If all
+// places are then outside, the list is cleared.
 fn answer_alike<R: Abort>(
     rt: &R,
     number: u64,

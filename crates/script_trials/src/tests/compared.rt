@@ -1,4 +1,4 @@
-//! The comparison that all tests use.
+//! The comparison that most tests use.
 
 use std::fmt::Debug;
 use std::process::Abort;

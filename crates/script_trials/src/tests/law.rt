@@ -47,8 +47,8 @@ fn newcomers_come_last<S>()
     laws::newcomers_last::<S>();
 }
 
-// What the laws of overtaking say if no other process is before: a signaller returns after the first release, and the
-// longest waiter of priority 0 is the next to be taken, whatever processes come.
+// What the laws of overtaking say if no other process goes first: the monitor returns to a signaller at the first
+// release, and the longest waiter of priority 0 is the next to be taken, whatever processes come.
 fn first_goes_first<S>()
     ensures signaller { (h : History S) (later : List (Event S)) (k c w : ℕ) (s : S)
         → IsLegal (with_events h (Signal k c w s ∷ later)) → own k later ≡ [] → urgent h.events ≡ []
@@ -62,7 +62,7 @@ fn first_goes_first<S>()
 }
 
 // What the definitions of overtaking count in lists written by hand: after a signal of place 1, which resumes place 2
-// from condition 0, and after a notify by place 3 on the Mesa condition 1.
+// from condition 0; after a notify by place 3 on the Mesa condition 1; and in a list of three waits and a notify.
 fn counts_by_hand()
     ensures after_a_signal { let later : List (Event ⊤) = Resume 2 0 tt ∷ Wait 2 0 5 tt ∷ Back 1 tt
         ∷ Pass 1 0 2 tt ∷ Resume 2 0 tt ∷ Leave 2 tt ∷ [] in

@@ -1,6 +1,6 @@
 //! Numbers without a visible pattern.
 
-/// Returns the next number of a row without a visible pattern: that of Knuth's MMIX, whose low digits repeat soon.
+/// Returns the next number of a row without a visible pattern: that of Knuth's MMIX, whose low bits repeat soon.
 pub fn next_number(number: u64) -> u64 {
     number
         .wrapping_mul(6364136223846793005)

@@ -1,5 +1,5 @@
-//! A monitor that stores nothing but the list of all its events, and computes each answer from that list by the filters
-//! of `past/filters.rt`. The book is compared with it, and shares no code with it.
+//! A monitor that stores nothing but its sizes and the list of all its events, and computes each answer from that list
+//! by the filters of `past/filters.rt`. The book is compared with it, and shares no code with it.
 pub mod event;
 pub mod filters;
 
@@ -58,7 +58,7 @@ impl Past {
         outside(place, self.events.as_slice())
     }
 
-    /// Returns a place that is outside, chosen by `lot`, or `None` if there is none.
+    /// Returns a place that is outside, chosen by `lot`, or `None` if no place is outside.
     pub fn newcomer(&self, lot: u64) -> Option<u64> {
         let places = self.places.max(1);
         let first = lot % places;
@@ -81,8 +81,8 @@ impl Past {
         true
     }
 
-    /// Forgets all events if all places are outside, so that the list stays short. No later answer depends on them:
-    /// each filter leaves out the events of a place that has left since.
+    /// Forgets all events if all places are outside, so that the list stays short. No later answer depends on them: for
+    /// each filter a place that has left is like a place without events.
     pub fn forget_at_rest(&mut self) {
         if self.all_outside() {
             self.events.clear();
@@ -149,7 +149,7 @@ impl Past {
     }
 
     // Returns why a step on a condition is refused: the condition doesn't exist, or is a Mesa condition but `mesa` is
-    // false, or the reverse.
+    // false, or the reverse. Returns `None` if none of that is so.
     fn refuses_kind(&self, condition: u64, mesa: bool) -> Option<StepRefused> {
         if condition < self.conditions && self.is_mesa(condition) != mesa {
             return Some(StepRefused::WrongKind);
@@ -176,8 +176,8 @@ impl Past {
         }
     }
 
-    // Returns the event of a step that isn't refused. If no place waits, a signal, a notify and a broadcast are no
-    // events.
+    // Returns the event of a step that isn't refused. If no place waits on the condition, a pass is a leave, and a
+    // signal, a notify or a broadcast is no event.
     fn event_of(&self, step: Step) -> Result<Option<Event>, AllocError> {
         let (place, condition) = match step {
             Step::Enter(place) => return Ok(Some(Event::Admit(place as usize))),

@@ -17,7 +17,7 @@ use std::process::Abort;
 const HAND_OVER: &[u8] =
     b"monitor 2 1\nenter 0\nwait 0 0 0\nenter 1\nsignal 1 0\nleave 0\nleave 1\n";
 
-// Three places wait on a Mesa condition, a fourth notifies all of them, and a fifth enters after them.
+// Three places wait on a Mesa condition, and a fourth notifies all of them. A fifth enters after they have left.
 const BROADCAST: &[u8] =
     b"monitor 5 1 1\nenter 0\nwait 0 0 2\nenter 1\nwait 1 0 1\nenter 2\nwait 2 0 1\nenter 3\nbroadcast 3 0\nenter 4\n\
         leave 3\nenter 4\nleave 1\nleave 2\nleave 0\nenter 4\nleave 4\n";
@@ -30,7 +30,7 @@ fn drawn(alloc: Global, script: &[u8], form: Form) -> (Result<(), PictureFault>,
     (result, writer)
 }
 
-// Draws a script that has no fault.
+// Draws a script, and returns the picture. Fails if the drawing ends with a fault.
 fn drawn_whole<R: Abort + AllocGlobal>(rt: &R, script: &[u8], form: Form) -> Vec<u8> {
     let (result, text) = drawn(rt.alloc(), script, form);
     expect_same(rt, result, Ok(()));
@@ -66,8 +66,8 @@ fn stand_once<R: Abort>(rt: &R, picture: &[u8], parts: &[&str]) {
     }
 }
 
-// Adds steps by which all 64 places enter and wait. The priority is the greatest, or 7 for all places but place 0
-// unless `greatest`.
+// Adds steps by which all 64 places enter and wait. Place 0 waits with the greatest priority, `u64::MAX`; the others
+// too if `greatest`, else with 7.
 fn add_waits(script: &mut String, greatest: bool) -> Result<(), AllocError> {
     for place in 0..64u64 {
         let priority = if greatest || place == 0 { u64::MAX } else { 7 };

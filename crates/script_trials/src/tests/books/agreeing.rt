@@ -1,5 +1,5 @@
 //! Compares the book with a monitor that filters the list of all its events (`past`). After each drawn step both agree
-//! on the waiters, the notified, the turn, and which places are outside.
+//! on the priorities of the waiters, the notified places, the turn, and which places are outside.
 use super::sized::SizedBook;
 use crate::tests::compared::expect_same;
 use crate::tests::numbers::next_number;
@@ -35,7 +35,7 @@ const STEPS: u64 = 40;
 // Number of histories: 50 for each number of places and each entry of `KINDS`.
 const HISTORIES: u64 = 5_600;
 
-// Number of times that each case came up.
+// Number of times that each case came up, over all histories.
 #[derive(Default, Drop)]
 struct Tally {
     done: usize,
@@ -44,7 +44,7 @@ struct Tally {
     several_called: usize,
     // A place is notified while a signaller waits.
     beside_signallers: usize,
-    // A place that was notified waited again and was notified again.
+    // A notified place resumed, waited again as its next act, was notified again, and resumed.
     called_again: usize,
     broadcasts_of_several: usize,
 }
@@ -67,7 +67,7 @@ impl Two {
         })
     }
 
-    // Does a step on both. Returns true if both give the same answer.
+    // Does a step on both. Returns true if both give the same answer and notify the same number of places.
     fn step(&mut self, step: Step, tally: &mut Tally) -> Result<bool, AllocError> {
         let told = self.past.step(step)?;
         let (answer, calls) = told;
@@ -103,8 +103,8 @@ impl Two {
         true
     }
 
-    // Returns true if both have the same notified places, in the same order. No call of the book returns the
-    // signallers: each of them is compared as the turn, when it is to continue.
+    // Returns true if both have the same notified places, in the same order. No call of the book returns the waiting
+    // signallers: each of them is compared by the turn, once it has returned.
     fn agree_to_come(&self, tally: &mut Tally) -> Result<bool, AllocError> {
         let signallers = self.past.urgent()?;
         let called = self.past.called()?;
@@ -121,7 +121,7 @@ impl Two {
         Ok(same_turn && same_waits && same_to_come && self.agree_outside())
     }
 
-    // Returns a step of any place; mostly it is refused.
+    // Returns any step of any place. Mostly it is refused.
     fn strange(&self, lot: u64) -> Step {
         let place = lot / 64 % self.past.places.saturating_add(1);
         let condition = lot / 1024 % self.past.conditions.saturating_add(1);
@@ -136,8 +136,8 @@ impl Two {
         }
     }
 
-    // Returns a step of the place inside that isn't refused. It may be a wait only if another process can continue
-    // afterwards.
+    // Returns a step of the place inside that isn't refused. It is a wait only if another process can enter, return or
+    // resume afterwards.
     fn suited(&self, place: u64, lot: u64) -> Result<Step, AllocError> {
         let condition = lot / 64 % self.past.conditions.max(1);
         let goes_on = self.past.newcomer(lot).is_some() || self.past.is_awaited()?;
@@ -151,7 +151,7 @@ impl Two {
         })
     }
 
-    // Returns the next step; mostly it isn't refused.
+    // Returns the next step. Mostly it isn't refused.
     fn drawn(&self, lot: u64) -> Result<Step, AllocError> {
         let further = lot / 16;
         match (self.past.now()?, self.past.newcomer(further)) {
@@ -162,7 +162,7 @@ impl Two {
     }
 }
 
-// Returns the last but one of these events of a place, or `None` if it has fewer than two.
+// Returns the last but one of the events of `place`, or `None` if the place has fewer than two.
 fn last_but_one(events: &[Event], place: usize) -> Option<Event> {
     let (mut last, mut before) = (None, None);
     for event in events {

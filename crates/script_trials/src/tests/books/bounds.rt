@@ -1,5 +1,5 @@
-//! Tests that non-blocking calls have bounds, which no contract states: steps of all kinds on a full book end within
-//! the minute that `rt ci` allows a test.
+//! Tests that non-blocking calls have bounds, which no contract states: steps of all kinds but `Leave` on a full book
+//! end within the minute that `rt ci` allows a test. (A pass that resumes no waiter does what a leave does.)
 use super::made;
 use crate::tests::compared::expect_same;
 use hoare_law::waits::Waits;
@@ -28,8 +28,8 @@ fn call_all(book: &mut Book) -> Result<(), StepRefused> {
     Ok(())
 }
 
-// Place 0 resumes the first waiter on condition 1. Then the place inside passes again and again, on conditions 0 to 3
-// in rotation.
+// Place 0 signals, which resumes the first waiter on condition 1. Then the place inside passes, 64 times, on conditions
+// 0 to 3 in rotation.
 fn empty(book: &mut Book) -> Result<(), StepRefused> {
     book.try_step(Step::Signal(0, 1))?;
     for turn in 0..PLACES {
@@ -49,7 +49,7 @@ fn waiting(book: &Book) -> usize {
     count
 }
 
-// Fills and empties a book by non-blocking calls of all kinds. In the end no place is inside and none waits.
+// Fills and empties a book by steps of all kinds but `Leave`. In the end no place is inside and none waits.
 #[test]
 fn steps_end_in_time(rt: HostRuntime) {
     let mut book = made(&rt, 64, 8, 4);

@@ -22,8 +22,8 @@ enum Kind {
     Passed,
 }
 
-// 400 steps: the first half fills the chain of a condition. The second half empties it, and fills and empties the
-// chain of the signallers.
+// One half of the 400 steps for a condition. The first half (`fills`) fills the chain of the condition. The second half
+// empties it: by signals, which also fill and empty the chain of the signallers, or by passes, which don't.
 #[derive(Clone, Copy)]
 struct Part {
     condition: u64,
@@ -55,7 +55,7 @@ fn priority_of(kind: Kind, i: u64, number: u64) -> u64 {
     }
 }
 
-// Returns the entry of a place: mostly of one that is outside, and seldom of place 0 if others are.
+// Returns a step by which a place enters. Mostly the place is outside, and seldom it is place 0 if others are outside.
 fn entry(past: &Past, number: u64) -> Step {
     let any = (number >> 32) % 64;
     if number >> 61 == 0 || past.outside(any as usize) {
@@ -110,8 +110,8 @@ fn waiting_anywhere(past: &Past) -> Result<usize, AllocError> {
     Ok(count)
 }
 
-// Returns what is expected of a half: how many places wait at its end, the most signallers at once during it, and how
-// many signallers are left at its end.
+// Returns what is expected of a half: how many places wait at its end, the most waiting signallers at once during it,
+// and how many signallers wait at its end.
 fn fullest(part: Part) -> (usize, usize, usize) {
     if part.fills {
         (63, 0, 0)
@@ -122,8 +122,9 @@ fn fullest(part: Part) -> (usize, usize, usize) {
     }
 }
 
-// 8,000 steps of 64 places. Each of the eight chains and the chain of the signallers is filled up to 63 and emptied
-// again: twice or three times, each time with another kind of priorities.
+// 8,000 steps of 64 places, in 20 parts of 400. The chain of each of the eight conditions is filled up to 63 and
+// emptied again two or three times, each time with another `Kind`. In the 16 parts with signals the chain of the
+// signallers is filled up to 63 and emptied again, too.
 #[test]
 fn fills_and_empties_all_chains(rt: HostRuntime) -> Result<(), Fail> {
     let mut book = made(&rt, 64, 8, 0);
@@ -149,8 +150,8 @@ fn fills_and_empties_all_chains(rt: HostRuntime) -> Result<(), Fail> {
 }
 
 // Returns a step of an entering place, or of the place inside, now and then on a condition that doesn't exist. If
-// `fills`, it is any step of the place inside, except that place 0 never waits, so that a process can always enter.
-// Else it is a pass.
+// `fills`, the place inside waits, signals, passes or leaves, except that place 0 never waits, so that a process can
+// always enter. Else it passes.
 fn mixed_step(past: &Past, fills: bool, number: u64) -> Result<Step, AllocError> {
     let (Next::Held(inside) | Next::For(inside)) = past.now()? else {
         return Ok(entry(past, number));
@@ -167,8 +168,8 @@ fn mixed_step(past: &Past, fills: bool, number: u64) -> Result<Step, AllocError>
     })
 }
 
-// 10,000 steps of 64 places, with all chains used together. The last 300 of each 500 steps only enter and pass: all
-// chains are empty then.
+// 10,000 steps of 64 places, with all chains used together. The last 300 of each 500 steps only enter and pass: at
+// their end all chains are empty.
 #[test]
 fn uses_all_chains_together(rt: HostRuntime) -> Result<(), Fail> {
     let mut book = made(&rt, 64, 8, 0);
@@ -188,8 +189,8 @@ fn uses_all_chains_together(rt: HostRuntime) -> Result<(), Fail> {
     Ok(())
 }
 
-// Returns a step of an entering place, or of the place inside. If `fills`, that waits on Mesa condition 7, except place
-// 0, which leaves. Else it notifies all that wait there, and then the places leave.
+// Returns a step of an entering place, or of the place inside. If `fills`, the place inside waits on Mesa condition 7,
+// except place 0, which leaves. Else it notifies one waiter there, or now and then all; if none waits there, it leaves.
 fn calling_step(past: &Past, fills: bool, number: u64) -> Result<Step, AllocError> {
     let (Next::Held(inside) | Next::For(inside)) = past.now()? else {
         return Ok(entry(past, number));
@@ -216,8 +217,8 @@ fn called_of(book: &Book) -> usize {
     count
 }
 
-// 2,000 steps. The chain of a Mesa condition is filled up to 63. Broadcasts or notifies empty it into the chain of the
-// notified, which leaves then empty.
+// 2,000 steps. In each 400 of them the chain of a Mesa condition is filled up to 63, notifies and broadcasts move its
+// waiters to the chain of the notified, and then the notified places resume and leave, until that chain is empty.
 #[test]
 fn fills_and_empties_the_called(rt: HostRuntime) -> Result<(), Fail> {
     let mut book = made(&rt, 64, 8, 1);

@@ -1,4 +1,4 @@
-//! A book with its sizes, with which each of its calls is made only if its contract allows it.
+//! A book together with its sizes, so that each call of the book can be made only if its contract allows it.
 ghost use Rattle.std.specs.Prelude.{◌≡◌, IfSome};
 ghost use Rattle.hoare_law.specs.declared.turn.Turn.TheVariants as turns;
 ghost use Rattle.hoare_law.specs.Sizes.{IsMesa};
@@ -10,7 +10,7 @@ use std::alloc::Global;
 use wait_book::book::Book;
 use wait_book::steps::{MakeRefused, Next, Step, StepRefused};
 
-// Returns the number of `place` among the places of these waits, counted from 1, or 0 if it isn't among them.
+// Returns the position of `place` among the places of these waits, counted from 1, or 0 if it isn't among them.
 fn number_among(waits: &[Wait], place: usize) -> usize {
     for at in 0..waits.len() {
         if waits[at].place == place {
@@ -76,8 +76,8 @@ impl SizedBook {
         }
     }
 
-    /// Does a step. Returns its answer, and how many places it notified. A notify and a broadcast are done by calls of
-    /// their own.
+    /// Does a step. Returns its answer, and how many places it notified. A notify and a broadcast that aren't refused
+    /// are done by `Book::notify` and `Book::broadcast`, and all other steps by `Book::try_step`.
     pub fn step(&mut self, step: Step) -> (Result<Next, StepRefused>, usize) {
         let calls = match step {
             Step::Notify(place, condition) => self.notify(place, condition),
@@ -90,20 +90,21 @@ impl SizedBook {
         }
     }
 
-    // Notifies, if the place may. Returns how many places that notified.
+    // Notifies if `caller` finds that the place may. Returns how many places that notified, or `None` if it may not.
     fn notify(&mut self, place: u64, condition: u64) -> Option<usize> {
         let (place, condition) = self.caller(place, condition)?;
         let is_called = self.book.notify(place, condition);
         Some(is_called as usize)
     }
 
-    // Broadcasts, if the place may. Returns how many places that notified.
+    // Broadcasts if `caller` finds that the place may. Returns how many places that notified, or `None` if it may not.
     fn broadcast(&mut self, place: u64, condition: u64) -> Option<usize> {
         let (place, condition) = self.caller(place, condition)?;
         Some(self.book.broadcast(place, condition))
     }
 
-    /// Returns true if exactly these are notified and haven't resumed, in the order in which they resume.
+    /// Returns true if exactly the places of these waits are notified and haven't resumed, in the order in which they
+    /// resume.
     pub fn has_called(&self, waits: &[Wait]) -> bool {
         for place in 0..self.sizes.places {
             if self.book.notified_position(place) != number_among(waits, place) {
@@ -113,7 +114,8 @@ impl SizedBook {
         true
     }
 
-    /// Returns true if exactly these wait on a condition, in the order in which signals would resume them.
+    /// Returns true if the priorities of the waiters on a condition, in the order in which signals would resume them,
+    /// are exactly those of these waits. No call of the book returns which places wait.
     pub fn has_waiting(&self, condition: usize, waits: &[Wait]) -> bool {
         if condition >= self.sizes.conditions || self.book.count(condition) != waits.len() {
             return false;

@@ -36,7 +36,8 @@ fn make_takes_the_most(rt: HostRuntime) -> Result<(), Fail> {
     Ok(())
 }
 
-// Fails if a book with this number of places can't be made, with any number of conditions.
+// Fails if a book with this number of places can't be made with each number of conditions: all of them Hoare's, or all
+// of them Mesa conditions.
 fn takes_places<R: Abort + AllocGlobal>(rt: &R, places: usize) {
     for conditions in 1..=8 {
         let hoare = made(rt, places, conditions, 0);
@@ -69,7 +70,7 @@ fn answers<R: Abort>(rt: &R, mut book: Book, steps: &[(Step, Answer)]) {
     }
 }
 
-// Steps of five places on two conditions.
+// Steps of five places on two conditions, and the answer to each.
 const BY_PRIORITY: &[(Step, Answer)] = &[
     (Step::Enter(0), Ok(Next::Held(0))),
     (Step::Wait(0, 1, 7), Ok(Next::Free)),
@@ -120,7 +121,7 @@ fn a_book_in_use_answers(rt: HostRuntime) -> Result<(), Fail> {
     Ok(())
 }
 
-// Steps of three places on one condition.
+// Steps of three places on one condition, and the answer to each.
 const REFUSED: &[(Step, Answer)] = &[
     (Step::Enter(3), Err(StepRefused::NoPlace)),
     (Step::Leave(u64::MAX), Err(StepRefused::NoPlace)),
@@ -144,7 +145,7 @@ fn steps_are_refused_in_order(rt: HostRuntime) {
     answers(&rt, made(&rt, 3, 1, 0), REFUSED);
 }
 
-// Steps of three places on a condition of each kind.
+// Steps of three places on a condition of each kind, and the answer to each.
 const KINDS: &[(Step, Answer)] = &[
     (Step::Notify(3, 2), Err(StepRefused::NoPlace)),
     (Step::Broadcast(0, 2), Err(StepRefused::NotInside)),
@@ -162,13 +163,14 @@ const KINDS: &[(Step, Answer)] = &[
     (Step::Wait(0, 1, 0), Ok(Next::Free)),
 ];
 
-// The kind of the condition is tested last. If no place waits, each step that suits the kind leaves its place inside.
+// The kind of the condition is tested last. If no place waits, a signal, a notify or a broadcast on a condition of its
+// kind leaves its place inside.
 #[test]
 fn kinds_are_refused_last(rt: HostRuntime) {
     answers(&rt, made(&rt, 3, 2, 1), KINDS);
 }
 
-// Each call of its own, with its premise proved of the history so far.
+// Makes calls of the book other than `try_step`, each with its premise proved of the history so far.
 #[test]
 fn calls_hand_the_monitor_on(rt: HostRuntime) -> Result<(), Fail> {
     let mut book = Book::make(rt.alloc(), 3, 2, 0)?;
@@ -188,8 +190,8 @@ fn calls_hand_the_monitor_on(rt: HostRuntime) -> Result<(), Fail> {
     Ok(())
 }
 
-// Returns a step of an entering place, or of the place inside, which waits in `waits` of 8 cases. Place 0 never waits,
-// so that a process can always enter.
+// Returns a step of an entering place, or of the place inside, which waits in `waits` of 8 cases. Place 0 never waits:
+// so a process can always enter if the monitor is free.
 fn mixed_step(now: Next, waits: u64, number: u64) -> Step {
     let condition = (number >> 16) % 8;
     let priority = (number >> 24) % 4;
@@ -222,7 +224,7 @@ fn mesa_step(step: Step, mesa: u64, number: u64) -> Step {
     }
 }
 
-// Does 500 steps of 64 places on 8 conditions, of which the last `mesa` are Mesa conditions: the first half with many
+// Does 500 steps of 64 places on 8 conditions, the last `mesa` of which are Mesa conditions: the first half with many
 // waits, the other with few. Fails if an answer differs from that of the list of events.
 fn mixed_run<R: Abort + AllocGlobal>(rt: &R, seed: u64, mesa: u64) -> Result<(), AllocError> {
     let mut book = made(rt, 64, 8, mesa as usize);

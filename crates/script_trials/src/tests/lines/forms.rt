@@ -1,4 +1,4 @@
-//! Tests of lines of a form, and of how a text is put together.
+//! Tests of lines of a word and one, two or three numbers, and of how a text is put together.
 use crate::tests::compared::expect_same;
 use arrayvec::ArrayVec;
 use line_text::forms::{one_number, three_numbers, two_numbers};
@@ -24,7 +24,7 @@ fn one_after_a_word(rt: HostRuntime) {
     }
 }
 
-// Lines, and the two numbers after `disk`, if they are that.
+// Lines, and the two numbers of each, if the line is `disk` and two numbers.
 const TWO_NUMBERS: &[(&[u8], Option<(u64, u64)>)] = &[
     (b"disk 400 1", Some((400, 1))),
     (b"disk 1 400", Some((1, 400))),
@@ -41,7 +41,7 @@ fn two_after_a_word(rt: HostRuntime) {
     }
 }
 
-// Lines, and the three numbers after `monitor`, if they are that.
+// Lines, and the three numbers of each, if the line is `monitor` and three numbers.
 const THREE_NUMBERS: &[(&[u8], Option<(u64, u64, u64)>)] = &[
     (b"monitor 4 2 1", Some((4, 2, 1))),
     (b"monitor 1 2 4", Some((1, 2, 4))),

@@ -5,7 +5,7 @@ use line_text::last_line::LineKeeper;
 use std::io::Read;
 use std::test::Fail;
 
-// Texts, and how the last line of each is shown once the text was read.
+// Texts, and how the last line of each is shown after the text was read.
 const LAST_LINES: &[(&[u8], &str)] = &[
     (b"", "     1 | "),
     (b"one", "     1 | one"),

@@ -1,4 +1,4 @@
-//! Tests of lines, their limits, and what is left after them.
+//! Tests of reading a line: how it ends, its limits, and what is left of the text.
 use crate::tests::compared::expect_same;
 use arrayvec::ArrayVec;
 use line_text::line::{Ended, Line, LineFault, read_line};
@@ -8,7 +8,7 @@ use std::process::Abort;
 // How a line ended, the line, and what is left of the text.
 type Read<'a> = (Result<Ended, LineFault>, &'a [u8], &'a [u8]);
 
-// Reads one line of a text with this room, and fails if the outcome differs.
+// Reads one line of a text, of which it may take `room` bytes, and fails if the outcome differs.
 fn check<R: Abort>(rt: &R, text: &[u8], room: usize, wanted: Read<'_>) {
     let mut rest = text;
     let mut line: Line = ArrayVec::new();

@@ -58,7 +58,7 @@ fn is_least(waits: &[Wait], one: Wait) -> bool {
     true
 }
 
-/// Returns the first of these waits whose priority no other undercuts, or `None` if there are none.
+/// Returns the first of these waits with the least priority, or `None` if there are none.
 pub fn chosen(waits: &[Wait]) -> Option<Wait> {
     for one in waits {
         if is_least(waits, *one) {
@@ -116,7 +116,7 @@ fn add_idle(found: &mut Vec<Wait>, waits: &[Wait], later: &[Event]) -> Result<()
     Ok(())
 }
 
-// Returns false if an event notified no place, or one that has an event in `later`.
+// Returns true if an event is a broadcast, or a notify of a place that has no event in `later`.
 fn is_open(event: Event, later: &[Event]) -> bool {
     match event {
         Event::Notify(_, _, called) => is_idle(called, later),
@@ -125,7 +125,8 @@ fn is_open(event: Event, later: &[Event]) -> bool {
     }
 }
 
-/// Returns the waits of the places that were notified and have not resumed, in the order of the notifications.
+/// Returns the waits of the places that were notified and have not resumed, in the order of the notifications; those of
+/// a broadcast by rising priority, and equal ones in the order of the waits.
 pub fn called(alloc: Global, events: &[Event]) -> Result<Vec<Wait>, AllocError> {
     let mut found = Vec::new(alloc);
     for at in 0..events.len() {

@@ -160,8 +160,8 @@ leave 1          .       .           .       -> free
     is_drawn(&rt, script, Ok(()), lines);
 }
 
-// Of two waiters with equal priority a notify notifies the longer waiting, on either side of the notifier. A third
-// notify, when only a place on the other condition waits, notifies none.
+// Of two waiters with equal priority a notify notifies the longer waiting, whichever side of the notifier it is on. A
+// third notify, when only a place on the other condition waits, notifies none.
 #[test]
 fn notified_in_order_as_text(rt: HostRuntime) {
     let script =
@@ -231,9 +231,10 @@ const LONG_STEPS: &[(&[u8], &[u8])] = &[
     ),
 ];
 
-// A lane is put beside another if the line has at most 80 letters with an arrow after it, and so is a remark. The step
-// has 29 letters, the first lane 4 + 23, and the second 4 + 3 and the digits of its priority. With 14 digits and 3 for
-// an arrow that is 80. With 6 digits it is 69, and `-> free` is 4 + 7 more.
+// A lane is put beside another if the line has at most 80 letters with it and an arrow after it, and a remark is put
+// there if the line has at most 80 with it. The step has 29 letters, the first lane 4 + 23, and the second 4 + 3 and
+// the digits of its priority. With 14 digits and 3 for an arrow that is 80. With 6 digits and no arrow it is 69, and
+// `-> free` is 4 + 7 more.
 #[test]
 fn lines_of_eighty_as_text(rt: HostRuntime) {
     for (script, end) in LONG_STEPS {
@@ -257,7 +258,8 @@ fn longest_line(text: &[u8]) -> usize {
     longest
 }
 
-// No line is over 80 letters long, with all 64 places waiting with priorities of one digit, or of twenty.
+// No line is over 80 letters long with all 64 places waiting: all with priorities of twenty digits, or all but place 0
+// with priorities of one digit.
 #[test]
 fn lines_fit_a_terminal(rt: HostRuntime) {
     for greatest in [false, true] {

@@ -12,7 +12,7 @@ fn cut<R: Abort + AllocGlobal>(rt: &R, script: &[u8], first: u64, last: u64) -> 
     drawn_whole(rt, script, Form::Svg(Steps { first, last }))
 }
 
-// Checks how often each of these parts is in a picture.
+// Fails unless each of these parts occurs in a picture as often as its number says.
 fn has_times<R: Abort>(rt: &R, picture: &[u8], parts: &[(&str, usize)]) {
     for (part, number) in parts {
         expect_same(
@@ -23,8 +23,8 @@ fn has_times<R: Abort>(rt: &R, picture: &[u8], parts: &[(&str, usize)]) {
     }
 }
 
-// Parts that occur once in the picture of steps 3 and 4. The wait of place 0 began before, and ends with step 3. The
-// two rows end at 64 + 56 = 120, and the page at 224.
+// Parts that occur once in the picture of steps 3 and 4. The box of place 0's wait began beside step 2, and ends beside
+// step 3. The two rows end at 64 + 56 = 120, and the page at 224.
 const MIDDLE: &[&str] = &[
     "<svg xmlns=\"http://www.w3.org/2000/svg\" width=\"560\" height=\"224\" viewBox=\"0 0 560 224\" role=\"img\"",
     ">A monitor with 2 places and 1 condition, steps 3 to 4 of 6</title>",
@@ -50,8 +50,8 @@ const MIDDLE: &[&str] = &[
         <rect class=\"inside\" x=\"20\" y=\"138\" width=\"68\" height=\"22\" rx=\"4\"/>\n",
 ];
 
-// The arrow of step 4, the last shown one, is drawn, and nothing of steps 2, 5 and 6. The legend has one arrow of each
-// kind.
+// The arrow of step 4, the last that is shown, is drawn, and nothing of steps 1, 2, 5 and 6, except that the wait of
+// step 2 goes on beside step 3. The legend has one arrow of each kind.
 #[test]
 fn middle_steps_with_a_box_from_before(rt: HostRuntime) {
     let text = cut(&rt, HAND_OVER, 3, 4);
@@ -82,8 +82,8 @@ fn arrow_at_the_first_shown_step(rt: HostRuntime) {
     stand_once(&rt, text.as_slice(), &parts);
 }
 
-// Place 1 is outside before step 1 and after steps 1 and 2, and has no lane. Step 2 alone has one row, whose box is
-// beside it.
+// Place 1 is outside before step 1 and after steps 1 and 2, and has no lane. Step 2 alone is one row, and the box of
+// place 0's wait, which has two rows in the whole picture, is beside that row alone.
 #[test]
 fn lanes_of_the_shown_steps_alone(rt: HostRuntime) {
     let text = cut(&rt, HAND_OVER, 1, 2);
@@ -135,8 +135,8 @@ fn all_steps_by_their_numbers(rt: HostRuntime) {
     }
 }
 
-// The broadcast is step 8: alone, its arrows run at 64 + 14 = 78. From step 9 on none of them is drawn, and the box of
-// the third that was notified, which began in row 8, is beside row 9 alone.
+// The broadcast is step 8. If that is shown alone, its arrows run at 64 + 14 = 78. If steps 9 to 16 are shown, none of
+// them is drawn, and the box of the third place that was notified, which began beside step 8, is beside step 9 alone.
 #[test]
 fn notifications_of_the_shown_steps(rt: HostRuntime) {
     let text = cut(&rt, BROADCAST, 8, 8);
@@ -159,7 +159,7 @@ fn notifications_of_the_shown_steps(rt: HostRuntime) {
     has_times(&rt, text.as_slice(), &[("class=\"arrow call\"", 1)]);
 }
 
-// An SVG of at most 1,164 of 2,000 steps is drawn, and one step more isn't begun.
+// An SVG of 1,164 of 2,000 steps is drawn, and one of 1,165 isn't begun.
 #[test]
 fn most_steps_of_a_long_script(rt: HostRuntime) {
     let script = repeated(&rt, b"monitor 1 1\n", b"leave 0\n", 2_000);

@@ -73,8 +73,9 @@ fn ends_with<R: Abort + AllocGlobal>(rt: &R, script: &[u8], fault: ScriptFault) 
 // A step of 68 bytes, its line end included, that is refused: no place has this number.
 const LONG_STEP: &[u8] = b"wait 18446744073709551615 18446744073709551615 18446744073709551615\n";
 
-// After a header of 12 bytes 15,420 such steps are 1,048,572 bytes, and one more is over 1,048,576. Each takes two
-// lines of the chart: after 67 letters there is no room for 4 more and `-> refused 1 (there is no such place)`.
+// A header of 12 bytes and 15,420 such steps are 1,048,572 bytes, and one step more makes that more than 1,048,576.
+// Each step takes two lines of the chart: after its 67 letters and the 4 of a gap the line of 80 has no room for
+// `-> refused 1 (there is no such place)`.
 #[test]
 fn long_line_and_large_script(rt: HostRuntime) {
     let longest = repeated(&rt, b"monitor 1 1\n", b"e", 256);
@@ -111,7 +112,7 @@ fn write_fault_of_a_whole_script(rt: HostRuntime) {
     }
 }
 
-// Returns how a script ends if nothing can be written.
+// Returns how the drawing of a script ends if nothing can be written.
 fn full_end<R: AllocGlobal>(rt: &R, script: &[u8], form: Form) -> Result<(), PictureFault> {
     let mut reader = script;
     draw_script(rt.alloc(), &mut reader, &mut Filling::new(0, false), form)

@@ -16,8 +16,8 @@ use std::process::Abort;
 // The place that signals all others.
 const SIGNALLER: u64 = 31;
 
-// Returns the row in which a place enters that then waits: each place before it takes two rows. It is resumed 127 rows
-// later, and leaves in the row after that.
+// Returns the row, counted from 0, in which a place enters that then waits: each place before it takes two rows. The
+// place is resumed 127 rows later, and leaves in the row after that.
 fn entry(place: u64) -> u64 {
     let before = if place < SIGNALLER {
         place
@@ -38,7 +38,7 @@ fn add_waits(script: &mut String) -> Result<(), AllocError> {
     Ok(())
 }
 
-// Adds rows 127 to 252: the signaller, which entered in row 126, resumes each waiter, and that leaves at once.
+// Adds rows 127 to 252: the signaller, which entered in row 126, resumes each waiter, which leaves at once.
 fn add_signals(script: &mut String) -> Result<(), AllocError> {
     for place in 0..64u64 {
         if place != SIGNALLER {
@@ -65,8 +65,8 @@ fn script<R: Abort + AllocGlobal>(rt: &R) -> String {
     script
 }
 
-// Draws a script of a header alone, in which all places are idle. Fails if its chart isn't one such line, or if the SVG
-// has a fault.
+// Draws a script of a header alone, in which all places are idle. Fails if its chart isn't the one line that says so,
+// or if drawing the SVG ends with a fault.
 fn is_drawn_idle<R: Abort + AllocGlobal>(rt: &R, places: u64, conditions: u64) {
     let script = format!(in rt.alloc(); "monitor {places} {conditions}").expect(
         rt,

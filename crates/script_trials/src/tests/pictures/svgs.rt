@@ -4,11 +4,11 @@ use crate::tests::compared::expect_same;
 use script_picture::picture::Form;
 use script_picture::steps::ALL_STEPS;
 
-// The whole picture of `HAND_OVER`, worked out by hand from the measures in the README. The longest step has 11 letters
-// of 8 after a margin of 20, and a box of 7 letters is 68 wide. So the lanes are at 20 + 88 + 24 + 34 = 166 and 68 + 44
-// = 112 further, at 278, and remarks begin at 278 + 34 + 16 = 328. Rows are 28 high from 64 on, so that the last one
-// ends at 232 and the page at 336. A box has 3 free above and below; an arrow runs along a row's middle, and its head
-// is 8 long.
+// The whole picture of `HAND_OVER`, worked out by hand from the measures in the README. The header, which is longer
+// than each step, has 11 letters of 8 after a margin of 20, and a box of 7 letters is 68 wide. So the lanes are at
+// 20 + 88 + 24 + 34 = 166 and 68 + 44 = 112 further, at 278, and remarks begin at 278 + 34 + 16 = 328. Rows are 28 high
+// from 64 on, so that the last one ends at 232 and the page at 336. A box has 3 free above and below. An arrow runs
+// along a row's middle; its shaft ends 8 before the tip, and its head is 9 long.
 const HAND_OVER_DRAWN: &[u8] =
     b"<svg xmlns=\"http://www.w3.org/2000/svg\" width=\"560\" height=\"336\" viewBox=\"0 0 560 336\" role=\"img\" \
         aria-labelledby=\"title\" aria-describedby=\"about\">
@@ -163,17 +163,19 @@ const CALLS: &[&str] = &[
     "<text class=\"note\" x=\"482\" y=\"597\">notified; 1 resumes first</text>",
 ];
 
-// The longest step has 13 letters, and `called 3` has 8, so that a box of the first three lanes is 9 * 8 + 12 = 84
-// wide, and a box of the others 68. The lanes are at 20 + 104 + 24 + 42 = 190, 128 further at 318 and at 446, at 446 +
-// 42 + 44 + 34 = 566, and at 678. Remarks begin at 678 + 34 + 16 = 728; the longest has 37 letters.
+// The longest step has 13 letters. A lane with a `called N`, of 8 letters, has room for 9: a lane is measured by its
+// texts in the chart, and one letter is added, since a wait has one more in the SVG. So a box of the first three lanes
+// is 9 * 8 + 12 = 84 wide, and a box of the others 68. The lanes are at 20 + 104 + 24 + 42 = 190, 128 further at 318
+// and at 446, at 446 + 42 + 44 + 34 = 566, and at 678. Remarks begin at 678 + 34 + 16 = 728, and the longest has 37
+// letters.
 //
 // The broadcast is the eighth row, from 260 on: its arrows run at 274, from the side of the box of place 3, at 566 - 34
 // = 532. Of the three waiters, 1 and 2 have priority 1, and 1 waits longer; 0 has priority 2. So 1 is notified first, 2
-// second and 0 third. Two rows later 1 resumes and the others move up. The same happens again with 2 two rows later,
-// and with 0 a row after that.
+// second and 0 third. Two rows later 1 resumes and the others move up. Two rows after that 2 resumes and 0 moves up,
+// and in the next row 0 resumes.
 //
-// Sixteen rows end at 512. The last hand-off runs at 414 to the side of the box of place 0, beneath the boxes: the
-// first of these is drawn after its head.
+// Sixteen rows end at 512. The arrow of the last hand-off runs at 414 to the side of the box of place 0. All boxes are
+// drawn after it: the first of them right after its head.
 #[test]
 fn broadcast_as_svg(rt: HostRuntime) {
     let text = drawn_whole(&rt, BROADCAST, Form::Svg(ALL_STEPS));
@@ -185,8 +187,8 @@ fn broadcast_as_svg(rt: HostRuntime) {
 // One wide lane leaves the others as they are. Steps take 20 + 29 * 8 + 24 = 276. Then come a lane of 204, 9 of 68 and
 // 54 of 76 (their names have two digits) with 63 gaps of 44, which is 7,692; then 16, a remark of 7 letters and 20.
 //
-// With 64 wide lanes it is the widest picture, but for longer steps and remarks: 20 + 30 * 8 + 24, then 64 * 204 + 63 *
-// 44 = 15,828, then 16 + 56 + 20.
+// With 64 wide lanes only longer steps or remarks can make a picture wider: 20 + 30 * 8 + 24 = 284, then
+// 64 * 204 + 63 * 44 = 15,828, then 16 + 56 + 20.
 #[test]
 fn widths_of_sixty_four_lanes(rt: HostRuntime) {
     for (greatest, want) in [(false, " width=\"8060\" "), (true, " width=\"16204\" ")] {

@@ -110,7 +110,7 @@ fn answer(past: &mut Past, to: &mut String, line: Line) -> Result<(), AllocError
     }
 }
 
-// Returns a place that is outside, chosen by `lot`, or `None` if too few are outside for that choice.
+// Returns the first, second or third place that is outside, by `lot`, or `None` if fewer are outside.
 fn newcomer(past: &Past, lot: u64) -> Option<u64> {
     let mut left = lot / 8 % 3;
     for place in 0..past.places {
@@ -130,7 +130,8 @@ fn is_called(past: &Past, condition: u64, is_strange: bool) -> bool {
     !is_strange && past.is_mesa(condition)
 }
 
-// Returns the next line: mostly it isn't refused, and leaves a place outside.
+// Returns the next line. Mostly it isn't refused. It is a wait only if `newcomer` finds a place that is outside. One in
+// 16 is strange: it names any place, and a condition that doesn't exist.
 fn drawn(past: &Past, lot: u64) -> Result<Line, AllocError> {
     let is_strange = lot / 4096 % 16 == 0;
     let any = lot / 8 % past.places.saturating_add(1);
@@ -163,7 +164,7 @@ fn drawn(past: &Past, lot: u64) -> Result<Line, AllocError> {
     })
 }
 
-// Returns the number of resumptions from a wait, by a signal or a notification.
+// Returns the number of resumptions from a wait, by a signal, a pass or a notification.
 fn resumptions(past: &Past) -> usize {
     let mut count: usize = 0;
     for event in past.events.as_slice() {
@@ -195,7 +196,7 @@ fn spell_header(to: &mut String, past: &Past) -> Result<(), AllocError> {
     add_words(to, &words)
 }
 
-// Draws the lines of a script, each with its answer.
+// Draws a script: adds its header and its lines to `script`, and the answer to each line to `answers`.
 fn draw(
     past: &mut Past,
     number: u64,

@@ -25,7 +25,7 @@ fn answers_to(lines: usize) -> &'static [u8] {
     ANSWERS.get(..end).unwrap_or(ANSWERS)
 }
 
-// Returns how the first `length` bytes of the script end, and how many of their lines get an answer.
+// Returns how a run of the first `length` bytes of the script ends, and how many of their lines get an answer.
 fn at_cut(length: usize) -> (Result<(), ScriptFault>, usize) {
     match length {
         0 => (Err(ScriptFault::NoHeader), 0),
@@ -58,7 +58,7 @@ fn script_cut_at_each_byte(rt: HostRuntime) -> Result<(), Fail> {
     Ok(())
 }
 
-// Returns how many step lines end at or before a byte.
+// Returns how many lines after the header end within the first `length` bytes of the script.
 fn lines_ended(length: usize) -> usize {
     match length {
         0..=19 => 0,

@@ -1,4 +1,4 @@
-//! Tests of the text and the exit status of each fault, and of what was expected.
+//! Tests of the text and the exit status of each fault, and of what was expected in place of the faulty line.
 use crate::tests::compared::expect_same;
 use crate::tests::shown::reads;
 use hoare_script::ScriptFault;
@@ -23,7 +23,7 @@ fn shown_faults(rt: HostRuntime) {
     }
 }
 
-// What a step should be, by the word with which the line at fault begins.
+// Lines at fault, and what is expected in place of each, by the word with which it begins.
 const STEPS: &[(&[u8], &str)] = &[
     (
         b"enter x",
@@ -76,7 +76,7 @@ fn a_step_is_expected_by_its_word(rt: HostRuntime) {
     }
 }
 
-// What is expected in place of each other fault, if the script is at fault.
+// The other faults, and what is expected in place of each, or `None` if the script isn't at fault.
 const EXPECTED: &[(ScriptFault, Option<&str>)] = &[
     (
         ScriptFault::NoHeader,

@@ -1,4 +1,4 @@
-//! Tests of texts that end a script.
+//! Tests of the limits of headers, lines and whole scripts, and of lines that are no commands.
 use super::failures::breaks;
 use super::is_told;
 use crate::tests::repeated::repeated;
@@ -6,7 +6,7 @@ use hoare_script::ScriptFault;
 use std::panic::Expect;
 use std::process::Abort;
 
-// Runs a script that gets no answer.
+// Runs a script, and fails if its end differs or it gets an answer.
 fn check<R: Abort + AllocGlobal>(rt: &R, script: &[u8], wanted: Result<(), ScriptFault>) {
     is_told(rt, script, wanted, b"");
 }
@@ -14,7 +14,7 @@ fn check<R: Abort + AllocGlobal>(rt: &R, script: &[u8], wanted: Result<(), Scrip
 // A script, and how it ends.
 type Ended = (&'static [u8], Result<(), ScriptFault>);
 
-// Runs scripts that get no answer.
+// Runs scripts, and fails if the end of one differs or it gets an answer.
 fn check_all<R: Abort + AllocGlobal>(rt: &R, scripts: &[Ended]) {
     for (script, wanted) in scripts {
         check(rt, *script, *wanted);
@@ -39,7 +39,7 @@ fn header_limits(rt: HostRuntime) {
     check_all(&rt, HEADERS);
 }
 
-// Runs a script with this number of places, the last of which enters.
+// Runs a script with these numbers of places and conditions, in which the last place enters.
 fn enters<R: Abort + AllocGlobal>(rt: &R, places: u64, conditions: u64) {
     let last = places.saturating_sub(1);
     let script = format!(in rt.alloc(); "monitor {places} {conditions}\nenter {last}\n").expect(
@@ -73,7 +73,8 @@ fn mesa_limits(rt: HostRuntime) {
     check_all(&rt, MESA_HEADERS);
 }
 
-// A second header, an empty line, a second space, a leading 0 and the byte 255 are no commands.
+// An empty line is no header. A second header, an empty line, a second space, a leading 0 and the byte 255 are no
+// commands.
 const BAD_LINES: &[Ended] = &[
     (b"\n", Err(ScriptFault::BadHeader(1))),
     (b"monitor 1 1\nmonitor 1 1\n", Err(ScriptFault::BadLine(2))),
@@ -104,7 +105,7 @@ fn large_script(rt: HostRuntime) {
     is_told(&rt, script.as_slice(), fault, answers.as_slice());
 }
 
-// The 257th byte makes the line too long. If the reader gives one byte less, the reader fails first.
+// The 257th byte makes the line too long. If the reader gives only 256 bytes, it fails first.
 #[test]
 fn endless_line(rt: HostRuntime) {
     let bytes = [b'e'; 257];

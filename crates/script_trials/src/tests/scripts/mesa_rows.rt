@@ -50,8 +50,8 @@ leave 1 -> free
     check(&rt, "monitor 4 2 1", rows);
 }
 
-// Of three waiters with priority 7 and one with 3, that with 3 resumes first, then the others in the order of their
-// waits.
+// Of three waiters with priority 7 and one with 3 that are all notified at once, the one with 3 resumes first, then the
+// others in the order of their waits.
 #[test]
 fn broadcast_by_priority_then_time(rt: HostRuntime) {
     let rows = "enter 0 -> 0
@@ -97,8 +97,8 @@ enter 0 -> 0
     check(&rt, "monitor 3 1 1", rows);
 }
 
-// Separate notifies notify in the order in which signals would resume, and a later wait comes after them, even with the
-// least priority.
+// Separate notifies notify waiters in the order in which signals would resume them. A place that waits later is
+// notified after them, even with the least priority.
 #[test]
 fn notified_in_turn(rt: HostRuntime) {
     let rows = "enter 0 -> 0

@@ -8,7 +8,7 @@ use std::io;
 use std::io::Read;
 use std::process::Abort;
 
-// Runs a script, and fails if its end or the rest of the text differs.
+// Runs a script, and fails if its end differs, or what is left of the text.
 fn check<R: Abort + AllocGlobal>(
     rt: &R,
     text: &[u8],
@@ -25,7 +25,7 @@ const BAD_HEADER: Result<(), ScriptFault> = Err(ScriptFault::BadHeader(1));
 
 const BAD_LINE: Result<(), ScriptFault> = Err(ScriptFault::BadLine(3));
 
-// Texts, how each ends, and what is left of it.
+// Texts, how a run of each ends, and what is left of the text.
 const TEXTS: &[(&[u8], Result<(), ScriptFault>, &[u8])] = &[
     (b"", Err(ScriptFault::NoHeader), b""),
     (b"monitor 1 1\nenter 0\n", Ok(()), b""),
@@ -48,7 +48,8 @@ fn bytes_left_behind_a_verdict(rt: HostRuntime) {
     }
 }
 
-// Runs a script with a watched reader. Returns its end, the number of reads, and the number of bytes that they gave.
+// Runs a script with a watched reader. Returns how it ended, the number of reads, and the number of bytes that they
+// gave.
 fn counted<R: Abort + AllocGlobal>(
     rt: &R,
     reader: &mut Endless,
@@ -63,8 +64,8 @@ fn counted<R: Abort + AllocGlobal>(
     (result, watched.calls(), watched.bytes())
 }
 
-// A reader that gives the line of a header, then one line again and again, and fails after `limit` bytes. So a run that
-// reads too much is detected, and ends.
+// A reader that gives the line of a header, then the bytes of `line` again and again, and fails after `limit` bytes. So
+// a run that reads too much is detected, and ends.
 #[derive(Drop)]
 struct Endless {
     line: &'static [u8],

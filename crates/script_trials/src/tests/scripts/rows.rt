@@ -7,7 +7,8 @@ use std::alloc::AllocError;
 use std::panic::Expect;
 use std::process::Abort;
 
-// Adds the lines of the rows. A row without an answer is a line itself: its answer then differs from the row.
+// Adds the line of each row, without its answer. A row without an answer is added whole; `check` then fails, since the
+// run writes an answer.
 fn add_lines(script: &mut String, rows: &str) -> Result<(), AllocError> {
     for row in rows.lines() {
         let (line, _) = row.split_once(" -> ").unwrap_or((row, ""));

@@ -1,6 +1,6 @@
 //! The chart of the large script. Its longest step has 13 letters. A lane takes 4 + 6, and that of the signaller 4 + 4.
-//! Six lanes fit side by side, which are 73 long; a seventh and an arrow would make 86. So there are eleven blocks, and
-//! the last has the lanes of places 60 to 63.
+//! Six lanes fit side by side: with the step the line is 73 long, and with a seventh and an arrow it would be 86. So
+//! there are eleven blocks, and the last has the lanes of places 60 to 63.
 use super::{SIGNALLER, script};
 use crate::tests::compared::expect_same;
 use crate::tests::patterns::Part::{Number, Word};
@@ -36,7 +36,8 @@ leave 63 ------- . ------- . ------- . ------- .
 leave 31         .         .         .         .         -> free
 ";
 
-// Adds a step, as wide as the longest one, before the first of the four lanes.
+// Adds a step: `word`, `place` and `rest`, and one blank more if the place has one digit. So steps with the same word
+// and the same `rest` are equally wide.
 fn add_step<'a>(
     text: &mut String,
     word: &'a str,

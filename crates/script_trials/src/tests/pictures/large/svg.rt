@@ -47,7 +47,7 @@ const BAND: &str = "<rect class=\"band\" x=\"8\" y=\"#\" width=\"7780\" height=\
 
 const STEP: &str = "<text class=\"step\" x=\"#\" y=\"#\">#</text>\n";
 
-// Adds a row: its band, if its number is even, its step, and the answer if the monitor is free after the step.
+// Adds a row: its band if its number is even, its step, and the remark `-> free` if the monitor is free after the step.
 fn add_row(text: &mut String, row: u64, step: &str) -> Result<(), AllocError> {
     let top = top(row);
     let line = top.saturating_add(18);
@@ -72,7 +72,7 @@ fn add_rows(text: &mut String, script: &str) -> Result<(), AllocError> {
 const LANE: &str =
     "<text class=\"head\" x=\"#\" y=\"42\">place #</text><path class=\"lane\" d=\"M# 64V7176\"/>\n";
 
-// Adds the name of each place over its lane.
+// Adds the lane of each place, with the place's name above it.
 fn add_lanes(text: &mut String) -> Result<(), AllocError> {
     for place in 0..64u64 {
         let middle = Number(middle(place));
@@ -145,7 +145,7 @@ fn add_waiter(text: &mut String, place: u64) -> Result<(), AllocError> {
     add_inside(text, place, entry.saturating_add(127))
 }
 
-// Adds the box of the signaller beside the row of a signal.
+// Adds the box of the signaller beside the row of a signal: a blank, a half-filled and an outlined rectangle.
 fn add_signalling(text: &mut String, row: u64) -> Result<(), AllocError> {
     let area = Area {
         place: SIGNALLER,
@@ -157,7 +157,8 @@ fn add_signalling(text: &mut String, row: u64) -> Result<(), AllocError> {
     area.add_box(text, "signals", "dark", "signals")
 }
 
-// Adds the boxes of the signaller: it is inside from row 126 on, and signals in each second row.
+// Adds the boxes of the signaller: it is inside in row 126, and then signals in one row and is inside in the next, up
+// to row 252.
 fn add_signaller(text: &mut String) -> Result<(), AllocError> {
     add_inside(text, SIGNALLER, 126)?;
     for signal in 0..63u64 {
@@ -184,7 +185,7 @@ const SHAFT: &str = "<path class=\"#\" d=\"M# #H#\"/>";
 
 const TIP: &str = "<path d=\"M# #l#-5v10z\"/>\n";
 
-// Adds an arrow along the middle of a row, over its white edge. Its head is 8 long.
+// Adds an arrow across, at height `y`, over a white edge. Its shaft ends 8 before the tip, and its head is 9 long.
 fn add_arrow(text: &mut String, class: &str, y: u64, from: u64, to: u64) -> Result<(), AllocError> {
     let (begin, neck, back) = if from < to {
         (from.saturating_add(4), to.saturating_sub(8), "-9")
@@ -199,8 +200,8 @@ fn add_arrow(text: &mut String, class: &str, y: u64, from: u64, to: u64) -> Resu
 
 const DOT: &str = "<circle cx=\"#\" cy=\"#\" r=\"4\"/>\n";
 
-// Adds the signal that resumes a place, between the sides of two boxes, and the return from the lane of the place that
-// left.
+// Adds the arrow of the signal that resumes a place, from the signaller's box to that of the place; a dot at the point
+// at which the place left; and from there the arrow of the return to the signaller's box.
 fn add_hand_overs(text: &mut String, place: u64) -> Result<(), AllocError> {
     let (side, facing) = if place < SIGNALLER {
         (left(SIGNALLER), right(place))
@@ -242,9 +243,9 @@ fn cut(picture: &[u8]) -> (&[u8], &[u8]) {
     (picture, b"")
 }
 
-// Each shape, how often it occurs before all of these, and how often after them, in the legend. The page and the header
-// are before them. The legend has three boxes, two arrows, and a text in each box and beside each of the five. The
-// half-filled box is three rectangles.
+// Each kind of shape, how often it occurs before what `add_all` adds, and how often after that. Before are the page and
+// the header. After is the legend: three boxes, of which the half-filled one is three rectangles, two arrows of three
+// paths each, a text in each box, and a text beside each of the five.
 const OTHERS: &[(&str, usize, usize)] = &[
     ("<rect", 1, 5),
     ("<text", 1, 8),

@@ -1,11 +1,12 @@
--- What a barrier keeps of its waiters: when a party arrives, when the last lets them resume, and when each resumes.
+-- What holds of a barrier and of its waiters when a party arrives, when the last begins the next generation, and when a
+-- waiter resumes.
 use Rattle.std.proofs.Common.{◌≡◌, ◌≢◌, ℕ, suc, ◌+◌, ◌<◌, List, [], ◌∷◌, length, refl, arith}
 use Rattle.std.specs.Prelude.{All, slice_index}
 use Rattle.hoare_law.specs.Priorities.{put_in, behind_first}
 use Rattle.hoare_law.proofs.Sorted.{All-put_in, length-put_in}
 use Rattle.cookbook.specs.Barriers.{Gathering, next, one_more, one_less, opened, BarrierRests, BarrierReady}
 
--- a party that isn't the last may wait, with the generation as its priority
+-- rest holds: a party that isn't the last may wait, once it is counted, with the generation as its priority
 pub BarrierRests-come : {b a : Gathering} {p : ℕ} {q : List ℕ} (r : List ℕ) → BarrierRests b q
     → b.arrived + 1 < b.parties → a ≡ one_more b → r ≡ q → p ≡ b.generation
     → BarrierRests a (put_in (λ n. n) p r)
@@ -15,7 +16,8 @@ BarrierRests-come {b = b} {q = q} r rests room state lists priority = rw (state,
   of_this = All-put_in (λ p. p ≡ b.generation) b.generation q refl rests.of_this;
 })
 
--- if all parties that have arrived wait, are of generation p, and the next has begun, the first of them may resume
+-- if all parties that have arrived wait, all are of generation p, and the next generation has begun, the first of them
+-- may resume
 first_ready : {b : Gathering} {p : ℕ} (q : List ℕ) → b.arrived < b.parties → length q ≡ b.arrived
     → b.generation ≡ next p → All (λ r. r ≡ p) q → q ≢ []
     → BarrierReady (slice_index q 0) b (behind_first q)
@@ -35,7 +37,7 @@ pub BarrierReady-opened : {b d : Gathering} {q r : List ℕ} → BarrierRests b 
 BarrierReady-opened {q = q} rests state lists some =
     rw (state, lists) (first_ready q rests.within rests.all_wait refl rests.of_this (rw lists at some))
 
--- when a waiter has resumed, so may the next
+-- when a resumed waiter has counted itself as gone, the next may resume
 pub BarrierReady-gone : {b d : Gathering} {p : ℕ} {q r : List ℕ} → BarrierReady p b q → d ≡ one_less b → r ≡ q → r ≢ []
     → BarrierReady (slice_index r 0) d (behind_first r)
 BarrierReady-gone {b = b} {q = q} found state lists some =

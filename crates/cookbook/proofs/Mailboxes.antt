@@ -1,5 +1,5 @@
--- Which letter of a mailbox is the most urgent, as far as the letters were searched; and what a mailbox keeps of its
--- waiters when a letter is put in or taken out.
+-- Which letter of a mailbox is the most urgent, as far as the letters were searched; and what holds of a mailbox and of
+-- its waiters when a letter was put in or taken out.
 use Rattle.std.proofs.Common.{◌≡◌, ◌≢◌, ℕ, suc, ◌+◌, ◌<◌, ◌≤◌, List, [], ◌∷◌, ◌++◌, length, length-append, get_or, take}
 use Rattle.std.proofs.Common.{drop, drop-cons, sym, ap, ◌∙◌, arith}
 use Rattle.std.specs.List.{remove}
@@ -8,13 +8,13 @@ use Rattle.cookbook.specs.declared.mailbox.Letter.{Letter}
 use Rattle.hoare_law.specs.Priorities.{behind_first}
 use Rattle.cookbook.specs.Mailboxes.{MailRests, RoomReady, LetterReady, TakesMostUrgent}
 
--- none of the first i letters is more urgent than the best, and those before the best are less urgent
+-- the letter at `best`: none of the first i letters is more urgent, and those before it are less urgent
 pub record IsBest (letters : List Letter) (best i : ℕ) : Type 0 where
   pub within : best < length letters
   pub less : (j : ℕ) (d : Letter) → j < best → (get_or letters best d).priority < (get_or letters j d).priority
   pub least : (j : ℕ) (d : Letter) → j < i → (get_or letters best d).priority ≤ (get_or letters j d).priority
 
--- the best of all letters is the one to be taken out
+-- the best of all letters is the most urgent; of equally urgent ones, the first
 pub TakesMostUrgent-best : {letters others : List Letter} {best i : ℕ} {x : Letter} → IsBest letters best i
     → length letters ≤ i → x ≡ get_or letters best x → others ≡ remove letters best
     → TakesMostUrgent letters x others
@@ -35,7 +35,7 @@ TakesMostUrgent-best {letters = letters} {best = best} {x = x} is all taken left
           (is.least (suc best + k) d (omega (arith, below, length-drop (suc best) letters, all)));
     }
 
--- a letter that is taken out leaves one fewer
+-- when the most urgent letter is taken out, there is one letter fewer
 one_less_of : {letters others : List Letter} {x : Letter} → TakesMostUrgent letters x others
     → length letters ≡ length others + 1
 one_less_of {x = x} takes =
@@ -68,7 +68,7 @@ LetterReady-at_once rests some = record {
 
 -- the lists after a change of the data are those before it: `same`
 module _ {d : List Letter} {q r : ℕ → List ℕ} where
-  -- a letter was put in: if a process waits for mail, it may resume; else rest holds
+  -- a letter was put in: if a process waits for mail, the first may resume; else rest holds
   pub LetterReady-put : (a : List Letter) (x : Letter) → RoomReady (length a) (q 0) (q 1) → d ≡ a ++ x ∷ [] → r ≡ q
       → r 1 ≢ [] → LetterReady (length d) (r 0) (behind_first (r 1))
   LetterReady-put a x ready is same wait =
@@ -91,7 +91,7 @@ module _ {d : List Letter} {q r : ℕ → List ℕ} where
         empty = λ wait. absurd (wait nobody);
       })
 
-  -- a letter was taken out: if a process waits for room, it may resume; else rest holds
+  -- a letter was taken out: if a process waits for room, the first may resume; else rest holds
   pub RoomReady-taken : {a b : List Letter} {x : Letter} → LetterReady (length a) (q 0) (q 1) → TakesMostUrgent a x b
       → d ≡ b → r ≡ q → r 0 ≢ []
       → RoomReady (length d) (behind_first (r 0)) (r 1)

@@ -1,4 +1,4 @@
--- What a rendezvous keeps of its waiters, and the traces of a meeting.
+-- What holds of a rendezvous and of its waiters at each step of a meeting; and the exit that resumes the partner.
 use Rattle.std.proofs.Common.{◌≡◌, ◌≢◌, ℕ, List, [], ◌∷◌, length, Bool, true, true≢false, refl, sym, arith}
 use Rattle.hoare_law.specs.declared.event.History.{History}
 use Rattle.hoare_law.specs.declared.event.Event.TheVariants.{Pass}
@@ -12,20 +12,20 @@ use Rattle.cookbook.specs.declared.rendezvous.Rendezvous.{Rendezvous}
 use Rattle.cookbook.specs.declared.rendezvous.Rendezvous.TheVariants.{Empty, Offered, Answered}
 use Rattle.cookbook.specs.Meetings.{IsOffered, MeetingRests, MeetingReady}
 
--- if there is no offer, the rendezvous is empty
+-- a rendezvous at rest without an offer is empty
 pub found_empty : {T : Type 0} (s : Rendezvous T) (q : List ℕ) → MeetingRests s q → (IsOffered s → ⊥) → s ≡ Empty
 found_empty Empty q rests none = refl
 found_empty (Offered x) q rests none = absurd (none tt)
 found_empty (Answered x) q rests none = absurd rests
 
--- a process that finds the rendezvous empty may wait with its offer
+-- rest holds: a process that finds the rendezvous empty may wait once it has left its offer
 pub MeetingRests-offered : {T : Type 0} (s d : Rendezvous T) (x : T) (q r : List ℕ) → MeetingRests s q → s ≡ Empty
     → d ≡ Offered x → r ≡ q → MeetingRests d (put_in (λ n. n) 0 r)
 MeetingRests-offered s d x q r rests empty state lists =
     let none : length q ≡ 0 = rw empty at rests in
     rw (state, lists) (omega (arith, none, length-put_in (λ n. n) 0 q))
 
--- if there is an offer, exactly one process waits
+-- at a rendezvous at rest with an offer exactly one process waits
 pub one_waits : {T : Type 0} (s : Rendezvous T) (x : T) (q r : List ℕ) → MeetingRests s q → s ≡ Offered x → r ≡ q
     → length r ≡ 1
 one_waits s x q r rests offered lists = rw lists (rw offered at rests)
@@ -42,7 +42,7 @@ pub MeetingReady-answered : {T : Type 0} (d : Rendezvous T) (y : T) (r : List �
     → MeetingReady d (behind_first r)
 MeetingReady-answered d y r one state = rw state (omega (arith, one, length-behind_first r))
 
--- the process that takes the value of its partner leaves no waiter
+-- rest holds when the resumed process has taken the value of its partner: no process waits
 pub nobody_else : {T : Type 0} (s d : Rendezvous T) (q r : List ℕ) → MeetingReady s q → d ≡ Empty → r ≡ q
     → MeetingRests d r
 nobody_else (Answered x) d q r ready state lists = rw (state, lists) ready

@@ -8,7 +8,7 @@ use Rattle.hoare_law.specs.declared.event.History.{History}
 use Rattle.cookbook.specs.TableTraces.{HandsOn}
 use Rattle.cookbook.specs.Tables.{TableHolds, CanEat, IsEating, right_of, left_of, seated, risen}
 
--- of the first n seats and those to their right no two neighbours eat
+-- if a philosopher eats at one of the first n seats, none eats at the seat to the right of that one
 abbrev pub IsApartBelow : List Bool → ℕ → Type 0
 IsApartBelow t n = (k : ℕ) → k < n → IsEating t k → get_or t (right_of k) false ≡ false
 
@@ -27,7 +27,7 @@ ate_before t j k within eats = ⊎_elim
     (λ other. sym (get_or-set_other t j k false false other) ∙ eats)
     (cases_eq k j)
 
--- when a philosopher gets up, no two neighbours eat
+-- the invariant still holds when a philosopher has got up
 pub TableHolds-risen : (t d : List Bool) (j : ℕ) → TableHolds t → j < 5 → d ≡ risen t j → TableHolds d
 TableHolds-risen t d j holds below state =
     let within : j < length t = rw holds.seats below in
@@ -36,14 +36,14 @@ TableHolds-risen t d j holds below state =
       apart = λ k lt eats. still_up t j (right_of k) within (holds.apart k lt (ate_before t j k within eats));
     })
 
--- no seat is beside itself; and if seat j is to the right of seat k, then k is to the left of j
+-- no seat is to the right of itself; and if seat j is to the right of seat k, then k is to the left of j
 not_beside : (j : ℕ) → j < 5 → right_of j ≢ j
 not_beside j below same = absurd (omega (arith, below, same))
 
 is_left : (j k : ℕ) → k < 5 → right_of k ≡ j → k ≡ left_of j
 is_left j k lt same = omega (arith, lt, same)
 
--- if a philosopher that can eat sits down, no two neighbours eat
+-- the invariant still holds when a philosopher that can eat has sat down
 apart_seated : (t : List Bool) (j k : ℕ) → TableHolds t → j < 5 → CanEat t j → k < 5 → IsEating (slice_set t j true) k
     → get_or (slice_set t j true) (right_of k) false ≡ false
 apart_seated t j k holds below can lt eats = ⊎_elim

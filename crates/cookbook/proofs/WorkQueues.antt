@@ -1,4 +1,4 @@
--- What a work queue keeps of its waiters, as each procedure changes it.
+-- What holds of a work queue and of its waiters, as the procedures change it.
 use Rattle.std.proofs.Common.{◌≡◌, ℕ, ◌<◌, ◌≤◌, List, [], ◌∷◌, length, Bool, true, false}
 use Rattle.std.proofs.Common.{true≢false, sym, ap, refl, ◌∙◌, arith}
 use Rattle.hoare_law.specs.declared.event.History.{History}
@@ -12,7 +12,7 @@ use Rattle.cookbook.specs.WorkQueues.{Workload, shut, IsIdle, IsOver}
 use Rattle.cookbook.specs.WorkQueues.{WorkHolds, WorkRests}
 use Rattle.cookbook.specs.WorkTraces.{ComesToWork, again}
 
--- one more wait for a job
+-- one more wait, of a worker that has to wait, continues its rounds
 pub ComesToWork-again : {k k1 : ℕ} {f g h : History Workload} {found now : Workload} → ComesToWork k f g found
     → IsIdle found → AddsTwo g (Wait k1 1 0 found) (Resume k1 1 now) h → k1 ≡ k → ComesToWork k f h now
 ComesToWork-again comes idle waits place = again _ _ _ _ comes idle (rw place at waits)
@@ -27,11 +27,11 @@ WorkRests-idle rests is_idle = record {
   sent_home = λ closed. absurd (true≢false (sym closed ∙ is_idle.may_come));
 }
 
--- what always holds does so while a worker has not gone
+-- the invariant holds while a worker has not gone, if there are no more jobs than there is room for
 pub WorkHolds-busy : (s : Workload) → length s.jobs ≤ 8 → 0 < s.workers → WorkHolds s
 WorkHolds-busy s within busy = record { within = within; done = λ gone. absurd (omega (arith, busy, gone)) }
 
--- what always holds does so when all work is over
+-- the invariant holds when all work is over
 pub WorkHolds-over : (s : Workload) → IsOver s → WorkHolds s
 WorkHolds-over s over = record { within = omega (arith, over.none_left); done = λ _. over }
 

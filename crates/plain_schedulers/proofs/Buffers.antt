@@ -1,11 +1,11 @@
--- What a buffer keeps of its waiting processes when an item is put in or taken out. The lists after the change are
--- those before it: `same`.
+-- What holds of a buffer and of its waiting processes when an item was put in or taken out. The lists of waiters are
+-- the same before the change and after it: `same`.
 use Rattle.std.proofs.Common.{◌≡◌, ◌≢◌, ℕ, ◌∷◌, List, [], length, length-append, ap, arith}
 use Rattle.hoare_law.specs.Priorities.{behind_first}
 use Rattle.plain_schedulers.specs.Buffers.{Buffered, BufferRests, ReadyNonempty, ReadyNonfull, added, with_items}
 
 module _ {T : Type 0} {b : Buffered T} where
-  -- a process that needn't wait finds what a process that waited finds
+  -- a process that needn't wait finds what a process that waited and is resumed finds
   pub ReadyNonfull-at_once : {takers putters : List ℕ} → BufferRests b takers putters → (length b.items ≡ b.size → ⊥)
       → ReadyNonfull b takers putters
   ReadyNonfull-at_once rests room = record {
@@ -25,7 +25,7 @@ module _ {T : Type 0} {b : Buffered T} where
   }
 
 module _ {T : Type 0} {b d : Buffered T} {q q1 : ℕ → List ℕ} where
-  -- an item was put in: a waiter for an item may resume, and if no process waits for one, rest holds
+  -- an item was put in: if a process waits for an item, the first may resume; if none does, rest holds
   pub ReadyNonempty-added : (x : T) → ReadyNonfull b (q 0) (q 1) → d ≡ added b x → q1 ≡ q → q1 0 ≢ []
       → ReadyNonempty d (behind_first (q1 0)) (q1 1)
   ReadyNonempty-added x ready is same waits =
@@ -48,7 +48,7 @@ module _ {T : Type 0} {b d : Buffered T} {q q1 : ℕ → List ℕ} where
         nonfull = λ others. omega (arith, one_more, ready.others (rw same at others), ready.inv.least);
       })
 
-  -- an item was taken out, and e is left: a waiter for room may resume, and if no process waits for room, rest holds
+  -- an item was taken out, and e is left: if a process waits for room, the first may resume; if none does, rest holds
   pub ReadyNonfull-removed : {e : Buffered T} {x : T} → ReadyNonempty b (q 0) (q 1) → b.items ≡ x ∷ e.items
       → e.size ≡ b.size → d ≡ e → q1 ≡ q
       → q1 1 ≢ [] → ReadyNonfull d (q1 0) (behind_first (q1 1))
@@ -81,6 +81,6 @@ module _ {T : Type 0} {b d : Buffered T} {q q1 : ℕ → List ℕ} where
         nonfull = λ waits. absurd (waits nobody);
       })
 
--- a buffer of the same size is the buffer before, with its own items
+-- a buffer e that has the size of b is b with the items of e
 pub left_of : {T : Type 0} (b : Buffered T) {e : Buffered T} → e.size ≡ b.size → e ≡ with_items b e.items
 left_of b {e = e} size = λ i. record { size = size i; items = e.items }

@@ -1,4 +1,4 @@
--- What a process adds to the history if it tests again, and if it notifies another.
+-- What a process adds to the history if it waits again, and if it notifies and leaves.
 use Rattle.std.proofs.Common.{◌≡◌, ℕ, Bool, ◌∙◌}
 use Rattle.hoare_law.specs.declared.event.History.{History}
 use Rattle.hoare_law.specs.declared.event.Event.TheVariants.{Admit, Wait, Leave, Resume}
@@ -9,7 +9,7 @@ use Rattle.plain_schedulers.specs.Buffers.{Buffered, BufferHolds, HoldsUp}
 use Rattle.plain_schedulers.specs.MesaTraces.{Rounds, again, entered, Tells}
 
 module _ {T : Type 0} {k k1 c : ℕ} {f g h : History (Buffered T)} {found now : Buffered T} where
-  -- one more wait
+  -- one more wait, of a process that has to wait, continues its rounds
   pub Rounds-again : Rounds k c f g found → HoldsUp c found
       → AddsTwo g (Wait k1 c 0 found) (Resume k1 c now) h → k1 ≡ k → Rounds k c f h now
   Rounds-again waited held adds place = again g h found now waited held (rw place at adds)
@@ -32,7 +32,8 @@ module _ {Self Out In Lists T : Type 0} (M : Ghosts Self (Buffered T) Out In Lis
     GotInsideFree-at_once of place holds front free =
         record { of = of; place = place; holds = holds; free = free; enters = entered _ _ front }
 
-    -- the process had to wait, and waited until it needn't
+    -- the process entered, at i, and is inside at j without a cause to wait: all that it did in between was to wait
+    -- each time it had to
     pub GotInsideFree-waited : {j : In} → M.place_in i ≡ M.place out
         → AddsLast (M.front out) (Admit (M.place out) (M.data_in i)) (M.front_in i)
         → M.is_of_in m j → M.place_in j ≡ M.place_in i → BufferHolds (M.data_in j) → (HoldsUp c (M.data_in j) → ⊥)
@@ -48,7 +49,7 @@ module _ {Self Out In Lists T : Type 0} (M : Ghosts Self (Buffered T) Out In Lis
     }
 
 module _ {S : Type 0} {k k1 k2 c : ℕ} {s s1 s2 : S} {f f1 g h : History S} {b : Bool} where
-  -- a notify, and then a leave
+  -- a notify, and then a leave with the same data
   pub Tells-leave : Notifies k1 c s1 f1 g b → k1 ≡ k → s1 ≡ s → f1 ≡ f → h ≡ with_event g (Leave k2 s2) → k2 ≡ k
       → s2 ≡ s → Tells k c s f h
   Tells-leave notifies place state front leaves placed kept = record {

@@ -14,20 +14,21 @@ use Rattle.plain_schedulers.specs.Buffers.{BufferHolds, BufferRests, added, empt
 use Rattle.hoare_law.specs.Priorities.{nobody}
 use Rattle.plain_schedulers.specs.Ring.{items_in, turned, ring_view, IsRing}
 
--- an index that passes the end at most once
+-- a number below 2n, modulo n: the number itself, or n less
 mod_wraps : (a n : ℕ) → a < n + n → ((a < n) × (a % n ≡ a)) ⊎ ((n ≤ a) × (a % n ≡ a - n))
 mod_wraps a n once = elim (cases_lt a n) [
   | inl below ↦ inl (below, mod-eq_of_lt below)
   | inr past ↦ inr (past, mod-eq-sub-mod past ∙ mod-eq_of_lt (omega arith))
 ]
 
--- turned cells are as many as the cells
+-- there are as many turned cells as cells
 length-turned : {T : Type 0} (last : ℕ) (cells : List (Option T)) → last < length cells
     → length (turned last cells) ≡ length cells
 length-turned last cells within =
     omega (arith, length-append (drop last cells) (take last cells), length-drop last cells, length-take last cells)
 
--- from the next cell on, the cell that was written is the last
+-- the cell `last` was written with x: turned to begin with the next cell, the cells are the turned cells of before
+-- without their first, and then x
 turned-next : {T : Type 0} (last : ℕ) (cells : List (Option T)) (x : Option T) → last < length cells
     → turned ((last + 1) % length cells) (set cells last x) ≡ drop 1 (turned last cells) ++ x ∷ []
 turned-next last cells x within = elim (mod_wraps (last + 1) (length cells) (omega arith)) [
@@ -99,13 +100,13 @@ turned-set last cells i x within below = elim (mod_wraps (last + i) (length cell
       ) refl
 ]
 
--- the number of n empty cells and then these items
+-- the number of cells, if there are n empty ones and then one for each of these items
 length-filled : {T : Type 0} (n : ℕ) (xs : List T) → length (replicate n None ++ map Some xs) ≡ n + length xs
 length-filled {T = T} n xs =
     let none : Option T = None in
     length-append (replicate n none) (map Some xs) ∙ rw (length-replicate n none, length-map xs Some) refl
 
--- the items in n empty cells and then cells with these items are these items
+-- n empty cells and then a cell for each of these items have these items
 items_in-filled : {T : Type 0} (n : ℕ) (xs : List T) → items_in (replicate n None ++ map Some xs) ≡ xs
 items_in-filled zero [] = refl
 items_in-filled {T = T} zero (x ∷ xs) = ap (λ (l : List T). x ∷ l) (items_in-filled zero xs)
@@ -122,13 +123,13 @@ length-items_in {cells = cells} {last = last} {count = count} ring =
       length-filled (length cells - count) (items_in (turned last cells)),
     )
 
--- cells in a ring are those of a buffer: 1 to 4096, and no more items than cells
+-- cells in a ring are a buffer: 1 to 4096 cells, and no more items than cells
 pub BufferHolds-ring : {T : Type 0} {cells : List (Option T)} {last count : ℕ} → IsRing cells last count
     → BufferHolds (ring_view cells last)
 BufferHolds-ring ring =
     record { least = ring.least; most = ring.most; fits = let n = length-items_in ring in omega arith }
 
--- cells whose turned list is n empty cells and then these items are in a ring
+-- 1 to 4096 cells, which turned are n empty cells and then a cell for each of these items, are in a ring
 IsRing-filled : {T : Type 0} (cells : List (Option T)) (last n : ℕ) (xs : List T) → 1 ≤ length cells
     → length cells ≤ 4096 → last < length cells
     → turned last cells ≡ replicate n None ++ map Some xs → IsRing cells last (length xs)
@@ -145,7 +146,7 @@ IsRing-filled {T = T} cells last n xs least most within filled =
       filled = rw (items, free) filled;
     }
 
--- empty cells are in a ring, from the first on
+-- 1 to 4096 empty cells are in a ring, with the first as the cell `last`
 pub IsRing-none : {T : Type 0} {cells : List (Option T)} {n : ℕ} → cells ≡ replicate n None → 1 ≤ n → n ≤ 4096
     → IsRing cells 0 0
 IsRing-none {T = T} {cells = cells} {n = n} none least most =
@@ -163,7 +164,7 @@ ring_view-none {T = T} {cells = cells} {n = n} none =
     ap (λ (l : List (Option T)). items_in (l ++ [])) none ∙ items_in-filled n [] in
     rw (size, items) refl
 
--- rest holds of a buffer with no item if no process waits
+-- rest holds of a buffer of 1 to 4096 cells with no item if no process waits
 pub BufferRests-empty : {T : Type 0} (n : ℕ) → 1 ≤ n → n ≤ 4096 → BufferRests (empty {T = T} n) (nobody 0) (nobody 1)
 BufferRests-empty n least most = record {
   inv = record { least = least; most = most; fits = omega arith };
@@ -171,7 +172,8 @@ BufferRests-empty n least most = record {
   nonfull = λ some. absurd (some refl);
 }
 
--- after an item is written in the last cell: the turned cells, from the next cell on
+-- if there is room, and x is written in the cell `last`: turned to begin with the next cell, the cells are one empty
+-- cell fewer than before, and then the items and x
 filled-push : {T : Type 0} {cells : List (Option T)} {last count : ℕ} (x : T) → IsRing cells last count
     → count < length cells
     → turned ((last + 1) % length cells) (set cells last (Some x))
@@ -187,7 +189,8 @@ filled-push {T = T} {cells = cells} {last = last} {count = count} x ring room =
       append_assoc (replicate (length cells - count - 1) None) (map Some items) (Some x ∷ []),
     ) refl
 
--- after an item is written in the last cell, the cells are in a ring with the next cell as the last
+-- if there is room, and x is written in the cell `last`, the cells are in a ring with one more item, and with the next
+-- cell as `last`
 pub IsRing-push : {T : Type 0} {cells : List (Option T)} {last count n : ℕ} (x : T) → IsRing cells last count
     → length (items_in (turned last cells)) < length cells
     → n ≡ length cells → IsRing (set cells last (Some x)) ((last + 1) % n) (count + 1)
@@ -202,7 +205,7 @@ IsRing-push {cells = cells} {last = last} {count = count} x ring room size =
     (items ++ x ∷ []) (omega arith) (omega arith)
     (omega arith) (filled-push x ring (omega arith))))
 
--- an item written in the last cell is the newest
+-- if there is room, an item written in the cell `last` is the newest
 pub added-ring : {T : Type 0} {cells : List (Option T)} {last count n : ℕ} (x : T) → IsRing cells last count
     → length (items_in (turned last cells)) < length cells
     → n ≡ length cells → ring_view (set cells last (Some x)) ((last + 1) % n) ≡ added (ring_view cells last) x
@@ -222,7 +225,7 @@ record Oldest {T : Type 0} (cells : List (Option T)) (last count at : ℕ) : Typ
   is : (d : Option T) → get_or cells at d ≡ Some x
   after : turned last (set cells at None) ≡ replicate (length cells - count + 1) None ++ map Some others
 
--- if there is an item, the oldest is in the cell `count` positions before the last, around the end
+-- if there is an item, the oldest is in the cell `count` positions before the cell `last`, around the end
 Oldest-ring : {T : Type 0} {cells : List (Option T)} {last count : ℕ} → IsRing cells last count → 0 < count
     → Oldest cells last count ((last + length cells - count) % length cells)
 Oldest-ring {T = T} {cells = cells} {last = last} {count = count} ring some =
@@ -253,7 +256,7 @@ Oldest-ring {T = T} {cells = cells} {last = last} {count = count} ring some =
           }
     ] refl
 
--- the cell `count` positions before the last, around the end, isn't empty
+-- if there is an item, the cell `count` positions before the cell `last`, around the end, isn't empty
 pub oldest_is_in : {T : Type 0} {cells : List (Option T)} {last count n : ℕ} {a : Option T} → IsRing cells last count
     → 0 < length (items_in (turned last cells))
     → n ≡ length cells → a ≡ get_or cells ((last + n - count) % n) a → a ≢ None
@@ -265,7 +268,8 @@ oldest_is_in {cells = cells} {last = last} {count = count} {a = a} ring some siz
     let apart : Some o.x ≡ None = cc in
     cc
 
--- the item in that cell is the oldest, and after it is taken out the others are left
+-- the item in the cell `count` positions before the cell `last`, around the end, is the oldest; when it is taken out,
+-- the other items are left
 pub items_in-pop : {T : Type 0} {cells : List (Option T)} {last count n : ℕ} {a : Option T} (x : T)
     → IsRing cells last count → 0 < length (items_in (turned last cells))
     → n ≡ length cells → a ≡ get_or cells ((last + n - count) % n) a → a ≡ Some x
@@ -278,7 +282,7 @@ items_in-pop {cells = cells} {last = last} {count = count} {a = a} x ring some s
     let same : x ≡ o.x = cc in
     rw (size, same, ap items_in o.after, items_in-filled (length cells - count + 1) o.others) o.items
 
--- after that item is taken out, the cells are in a ring with one item fewer
+-- when the oldest item is taken out, the cells are in a ring with one item fewer
 pub IsRing-pop : {T : Type 0} {cells : List (Option T)} {last count n : ℕ} → IsRing cells last count
     → 0 < length (items_in (turned last cells)) → n ≡ length cells
     → IsRing (set cells ((last + n - count) % n) None) last (count - 1)

@@ -1,4 +1,5 @@
-//! Tests of the schedulers, by what they run on: the monitor for tests, and rows of tests on both running doors.
+//! Tests of the schedulers and of the recipes, by what they run on: the monitor for tests (`fake` and `.._on_fake`),
+//! both running doors (`rows`), or no monitor (`meanings`, `refusals`, `reader_rounds`).
 
 mod awaited;
 mod compared;

@@ -1,4 +1,4 @@
-//! What all tests compare: values, and how they read.
+//! Comparisons that fail a test: of values, of how a value is shown, and of what the places of a row returned.
 
 use crate::tests::row::DoorType;
 use std::alloc::Global;
@@ -19,12 +19,12 @@ pub fn reads_as<T: Display, R: Abort>(rt: &R, alloc: Global, value: &T, wanted: 
     expect_same(rt, shown.as_str(), wanted);
 }
 
-/// Fails the test if the places of a row on a door of this type returned something else than `wanted`.
+/// Fails the test if `answers`, which the places of a row on a door of this type returned, isn't `wanted`.
 pub fn answered<R: Abort>(rt: &R, door: DoorType, answers: &[u64], wanted: &[u64]) {
     expect_same(rt, (door, answers), (door, wanted));
 }
 
-/// Fails the test if not all places of a row on a door of this type returned.
+/// Fails the test unless `answers`, of a row on a door of this type, has one answer for each of `places` places.
 pub fn all_answered<R: Abort>(rt: &R, door: DoorType, answers: &[u64], places: usize) {
     expect_same(rt, (door, answers.len()), (door, places));
 }

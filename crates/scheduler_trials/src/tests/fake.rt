@@ -1,5 +1,5 @@
-//! The fake monitor, and the plain schedulers on it. A wait on it that finds no answer never returns: then the limit
-//! that `rt ci` gives a test ends the test.
+//! The fake monitor, and the plain schedulers on it. A wait on it never returns if none of the answers that are left is
+//! ready for it: then the limit that `rt ci` gives a test ends the test.
 ghost use Rattle.std.specs.Prelude.{◌≤◌};
 ghost use Rattle.hoare_law.specs.Priorities.{nobody};
 ghost use Rattle.plain_schedulers.specs.Buffers.{BufferRests};
@@ -160,7 +160,7 @@ fn passes_and_waits<R: Wait + Abort, M: Monitor<Tally>>(rt: &R, m: &M, out: M::O
     expect_same(rt, (kept, found, resumed), (2, 3, false));
 }
 
-/// Creates an empty buffer of this many cells. Fails the test if out of memory.
+/// Creates an empty buffer of this many cells. Fails the test if that is refused.
 pub fn with_cells<T: Drop, R: Abort>(rt: &R, alloc: Global, cells: usize) -> Buffer<T>
     ensures { BufferRests result (nobody 0) (nobody 1) }
 {
@@ -218,7 +218,8 @@ fn with_one_item<R: Wait + Abort>(rt: &R, alloc: Global) -> Buffer<u8> {
     on_buffer(rt, alloc, 1, [], &[BufferStep::Appends(5)])
 }
 
-// The first answer is ready, or the first isn't and those after it are. Of eight answers seven are taken, in order.
+// The one answer is ready. Of eight answers, the first isn't ready: it is dropped, and the seven after it are taken in
+// order.
 #[test]
 fn an_acquire_goes_on_with_the_first_answer_that_is_ready(host: HostRuntime) {
     let (rt, alloc) = (&host, host.alloc());
@@ -260,7 +261,7 @@ fn a_release_too_many_is_refused(host: HostRuntime) {
     on_single(rt, alloc, with_item_out(rt, alloc), [], &steps);
 }
 
-// After the wait the place finds an answer of 3.
+// The data are 1 at first. After the wait the place finds the one answer, 3.
 #[test]
 fn what_is_written_in_hand_is_kept(host: HostRuntime) {
     let (rt, alloc) = (&host, host.alloc());
@@ -305,7 +306,7 @@ fn an_append_waits_for_room(host: HostRuntime) {
     on_buffer(rt, alloc, 1, answers, &steps);
 }
 
-// No process waits.
+// Makes each call but `wait`, `notify` and `broadcast`, while no process waits.
 #[test]
 fn each_call_is_made_once(host: HostRuntime) {
     let (rt, alloc) = (&host, host.alloc());

@@ -1,5 +1,5 @@
-//! Tests of `rest_holds` and `ready_holds` of the data of the schedulers and of the cookbook: without a waiter, with a
-//! waiter on condition 0, and with a waiter on condition 1. The waiter has priority 5.
+//! Tests of `rest_holds` and `ready_holds` of the data of the schedulers and of the cookbook, except `MesaBuffer` and
+//! `Drain`. `rests` and `readies` say in which cases; each waiter of theirs has priority 5.
 ghost use Rattle.std.specs.Prelude.{◌<◌};
 
 use crate::tests::compared::expect_same;
@@ -20,7 +20,8 @@ use sweep_schedulers::readers_writers::ReadersWriters;
 use timed_schedulers::alarm::Alarm;
 use timed_schedulers::pool::Pool;
 
-// Returns if the data are at rest: without a waiter, with a waiter on condition 0, and with a waiter on condition 1.
+// Returns three values, each true if the data are at rest: without a waiter, with a waiter on condition 0, and with a
+// waiter on condition 1. (Some of the data have no condition 1.)
 fn rests<D: MonitorData>(data: &D) -> (bool, bool, bool) {
     (
         data.rest_holds(&Nobody),
@@ -29,8 +30,8 @@ fn rests<D: MonitorData>(data: &D) -> (bool, bool, bool) {
     )
 }
 
-// Returns if the data are ready for a process that waited on condition 0 with priority 5: without another waiter, and
-// with another on condition 0.
+// Returns two values, each true if the data are ready for a process that waited on condition 0 with priority 5: without
+// another waiter, and with another on condition 0.
 fn readies<D: MonitorData>(data: &D) -> (bool, bool)
     requires { 0 < D.CONDITIONS }
 {
@@ -54,8 +55,8 @@ fn means<D: MonitorData, R: Abort>(
 }
 
 // A sleeper with setting 5 may sleep at time 4, and is due at 5. At an empty buffer of two cells a remove may wait, and
-// an append may not. An item, a drive and a free buffer are ready for the waiter; a resource that no process uses is
-// ready for a reader.
+// an append may not. An item and a drive are ready for a waiter, and so is a pool with one free buffer. A pool with two
+// is ready only if no other process waits. A resource that no process uses is ready for a reader.
 #[test]
 fn data_at_rest_and_ready(rt: HostRuntime) -> Result<(), Fail> {
     let nothing_waits = (true, false, true);
@@ -85,9 +86,10 @@ fn nobody_is_due_at_a_new_head(rt: HostRuntime) {
     expect_same(&rt, head.ready_holds(0, 0, &Nobody), false);
 }
 
-// A party may wait only if it was counted. No process may wait at an open latch, for room in an empty mailbox, alone
-// for an answer, or at a table with free seats. An open latch, an empty mailbox and an empty table are ready for the
-// waiter.
+// A party may wait at a barrier only if it was counted. No process may wait at an open latch, for room in an empty
+// mailbox, at a rendezvous without an offer, or at a table at which no philosopher eats. At an open work queue without
+// jobs a worker may wait, and a process in `shut_down` may not. An open latch and a table at which no philosopher eats
+// are ready for the waiter. An empty mailbox is ready for a sender only if no other waits.
 #[test]
 fn recipes_at_rest_and_ready(rt: HostRuntime) -> Result<(), Fail> {
     let nothing_waits = (true, false, true);

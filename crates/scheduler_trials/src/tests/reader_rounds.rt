@@ -5,8 +5,9 @@ ghost use Rattle.sweep_schedulers.specs.Rounds.{Moment, WriterWaits};
 
 use sweep_schedulers::laws;
 
-// If a writer is next while readers are in, no reader overtakes it. If a writer is in, and another waits before this
-// one, there are at most two rounds of readers.
+// `no_read`: if a writer is the first that waits, and no writer is in, no read begins while it waits. `two_rounds`: if
+// a writer is in, exactly one other waits before this one, and no round has more than 3 readers, at most 6 reads begin
+// while this one waits.
 fn no_reader_overtakes<T>()
     ensures no_read { (s : Shared T) (r w : ℕ) (behind : List ℕ) (m : Moment T) → WriterWaits s r [] w behind m
         → s.busy ≡ false → m.reads ≡ 0 }
@@ -16,7 +17,7 @@ fn no_reader_overtakes<T>()
     laws::readers_go_in_rounds::<T>();
 }
 
-// A run can show of a law only that the call returns.
+// A run of a law can show only that the call returns.
 #[test]
 fn reader_rounds_can_be_called() {
     no_reader_overtakes::<u8>();

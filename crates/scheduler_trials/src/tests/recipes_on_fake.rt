@@ -1,5 +1,5 @@
-//! What the rows of the recipes do not run, on the fake monitor: a philosopher gets up from a seat at which no
-//! philosopher eats, and a latch is opened twice.
+//! What the rows of the recipes don't run, on the fake monitor: an attempt to get up from a seat at which no
+//! philosopher eats, and a count of a latch that is open.
 
 use crate::tests::compared::expect_same;
 use crate::tests::fake::with_answers;
@@ -31,7 +31,7 @@ fn nobody_gets_up_where_nobody_eats(host: HostRuntime) {
     gets_up_once(rt, &fake, out);
 }
 
-// Opens a latch, and counts it down once more: the latch stays open, so a pass doesn't wait.
+// Counts a latch with at most one count left down twice. It stays open after the first, so a pass doesn't wait.
 fn opens_twice<R: Wait, M: Monitor<Latch>>(rt: &R, m: &M, out: M::Out)
     requires { M.is_of m.now out }
 {

@@ -1,5 +1,5 @@
-//! How the refusals of the schedulers and of the recipes are shown. (The refusal of the end of a read that no process
-//! began is in `rows::readers`, since its pass can't be made up.)
+//! How the refusals of the schedulers and of the recipes are shown. (How `NoReader` is shown is tested in
+//! `rows::readers`, since a test can't make up the pass in it.)
 
 use crate::tests::compared::reads_as;
 use cookbook::drain::TooMuchWork;

@@ -1,4 +1,5 @@
-//! Rows of tests on threads: each is written over any monitor, and run on each door.
+//! Rows of tests on threads. What the places of a row do is written over any monitor, and each row runs on each door.
+//! `foreign_items` is no row: it has one thread, and only an `AnyDoor` of each kind.
 pub mod alarm_and_pool;
 mod alarm_stress;
 pub mod drive;

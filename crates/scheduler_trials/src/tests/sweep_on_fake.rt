@@ -28,7 +28,8 @@ fn trip_to<R: Abort, const N: usize>(rt: &R, alloc: Global, cylinders: [u16; N])
     Vec::from_array(alloc, cylinders).expect(rt, "memory")
 }
 
-// Returns a disk whose drive has been at this cylinder.
+// Returns a disk with the head at cylinder 0 and a drive whose trip has `cylinder` alone. Fails the test if out of
+// memory.
 fn disk<R: Abort>(rt: &R, alloc: Global, cylinder: u16, cylmax: u16) -> Head<Trip>
     ensures { HeadRests result (nobody 0) (nobody 1) }
 {
@@ -47,8 +48,8 @@ fn is_refused_late<R: Wait + Abort, M: Monitor<Head<Trip>>>(rt: &R, m: &M, out: 
     expect_same(rt, other.as_slice(), [2, 15].as_slice());
 }
 
-// Takes the drive to cylinder 5. Then requests cylinder 8, waits, and finds the drive in. No grant is due at the
-// cylinder of the drive then.
+// Takes the drive to cylinder 5. Then requests cylinder 8, waits, and finds the drive in. Both times no grant is due at
+// the cylinder of the drive.
 fn waits_and_counts<R: Wait + Abort, M: Monitor<Head<Trip>>>(rt: &R, m: &M, out: M::Out)
     requires { M.is_of m.now out }
 {
@@ -58,8 +59,9 @@ fn waits_and_counts<R: Wait + Abort, M: Monitor<Head<Trip>>>(rt: &R, m: &M, out:
     expect_same(rt, other.as_slice(), [2, 8, 0].as_slice());
 }
 
-// Takes the drive to the last cylinder of a disk, and releases it. Then, if there is a number past the last cylinder,
-// requests it, which is refused, and releases a second drive, `trip`, which is given back.
+// Takes the drive to `cylmax`, the last cylinder of the disk, and releases it. If there is a number past `cylmax`, then
+// requests that cylinder, which must be refused, and attempts to release a second drive, `trip`, which must be given
+// back.
 fn reaches_the_last<R: Wait + Abort, M: Monitor<Head<Trip>>>(
     rt: &R,
     m: &M,
@@ -97,7 +99,7 @@ fn plays<R: Wait + Abort, M: Monitor<Head<Trip>>>(rt: &R, m: &M, out: M::Out, pl
     }
 }
 
-// Does what `play` says at this disk, whose drive no process has, with these answers.
+// Does what `play` says at this disk, with these answers.
 fn on_disk<R: Wait + Abort, const N: usize>(
     rt: &R,
     alloc: Global,
@@ -111,7 +113,7 @@ fn on_disk<R: Wait + Abort, const N: usize>(
     plays(rt, &fake, out, play);
 }
 
-// Writes, reads to the limit, and ends a read too many.
+// Writes, begins and ends reads up to the limit, and is then refused the end of a read.
 fn writes_and_reads<R: Wait + Abort, M: Monitor<Shared>>(rt: &R, alloc: Global, m: &M, out: M::Out)
     requires { M.is_of m.now out }
 {
@@ -120,7 +122,7 @@ fn writes_and_reads<R: Wait + Abort, M: Monitor<Shared>>(rt: &R, alloc: Global, 
     ends_no_read(rt, alloc, m, out);
 }
 
-// Enters as a writer, finds 0, and asks to read when the most readers are in.
+// Starts a write, which finds 0. Then asks to read, which must be refused: after a wait the most readers are in.
 fn comes_as_one_too_many<R: Wait + Abort, M: Monitor<Shared>>(rt: &R, m: &M, out: M::Out) -> M::Out
     requires { M.is_of m.now out }
     ensures { M.is_of m.now result }
@@ -129,7 +131,8 @@ fn comes_as_one_too_many<R: Wait + Abort, M: Monitor<Shared>>(rt: &R, m: &M, out
     is_one_too_many(rt, m, out)
 }
 
-// Enters as a writer, and waits to read. It finds the data `full`, in which the most readers are in.
+// On a new monitor starts a write and waits to read. The read finds `full`, in which the most readers are in, and is
+// refused. Returns the monitor with its place.
 fn finds_the_most_readers<R: Wait + Abort>(
     rt: &R,
     alloc: Global,
@@ -142,7 +145,8 @@ fn finds_the_most_readers<R: Wait + Abort>(
     (fake, out)
 }
 
-// Starts this many reads and takes the data to another monitor, at which each pass ends a read.
+// Starts this many reads and takes the data to another monitor, at which each pass ends a read. Returns that monitor
+// with its place.
 fn reads_elsewhere<R: Wait + Abort>(
     rt: &R,
     alloc: Global,
@@ -186,7 +190,7 @@ fn late_off_disk(host: HostRuntime) {
     );
 }
 
-// A request waits for the drive, and finds it.
+// A request waits for the drive, and finds it in.
 #[test]
 fn nobody_is_due_where_nobody_waits(host: HostRuntime) {
     let (rt, alloc) = (&host, host.alloc());
@@ -200,7 +204,7 @@ fn nobody_is_due_where_nobody_waits(host: HostRuntime) {
     );
 }
 
-// No process has the drive of the disk.
+// The last cylinder is 0, 100, or the largest number, past which there is none to request.
 #[test]
 fn a_disk_ends_at_its_last_cylinder(host: HostRuntime) {
     let (rt, alloc) = (&host, host.alloc());
@@ -211,7 +215,7 @@ fn a_disk_ends_at_its_last_cylinder(host: HostRuntime) {
     }
 }
 
-// The value is 0 first.
+// The value is 0 at first.
 #[test]
 fn the_most_readers_are_in(host: HostRuntime) {
     let (rt, alloc) = (&host, host.alloc());
@@ -228,7 +232,8 @@ fn late_too_many_readers(host: HostRuntime) {
     is_no_writer(rt, &other, place);
 }
 
-// What a law says of a disk of 200 cylinders on a monitor of 64 places: a request waits for at most 24,738 others.
+// What a law says of a disk of 200 cylinders at which at most 63 requests wait at a time. (So it is on a monitor of 64
+// places.) While a request waits, the drive is granted to other requests at most 24,738 times.
 fn waits_for_few<T>()
     ensures { (p k n : ℕ) (own : Direction) (d : Disk T) (q : ℕ → List ℕ) → d.cylmax ≡ 199
         → IsWaiting 63 own p k d q → Awaits 63 own p d q k n → n ≤ 24738 }
@@ -236,7 +241,8 @@ fn waits_for_few<T>()
     laws::a_request_is_granted::<T>();
 }
 
-// A run can show of a law only that the call returns. What one of these laws says proves the clause of `waits_for_few`.
+// A run of a law can show only that the call returns. What the first of these laws says is used to prove the clause of
+// `waits_for_few`.
 #[test]
 fn laws_of_the_head_can_be_called() {
     waits_for_few::<u8>();

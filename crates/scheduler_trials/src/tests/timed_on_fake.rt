@@ -16,11 +16,11 @@ use timed_schedulers::pool::Pool;
 enum ClockStep {
     /// Sleeps for this many ticks, and wakes at this time.
     Wakes { ticks: u64, time: u64 },
-    /// Sleeps for this many ticks, to past the last time, which is refused.
+    /// Attempts to sleep for this many ticks, until after the last time, which must be refused.
     IsTooFar(u64),
     /// Ticks: this is the next time.
     Ticks(u64),
-    /// Ticks at the last time, which is refused.
+    /// Attempts to tick at the last time, which must be refused.
     IsFull,
 }
 
@@ -72,7 +72,8 @@ fn on_clock<R: Wait + Abort, const N: usize>(
     takes_steps(rt, &fake, out, steps);
 }
 
-// Takes the one buffer, is refused late as stream 1, and takes the one buffer of the pool that it found.
+// Takes the one buffer for stream 0. Then attempts to take one for stream 1, waits, and is refused late. Then takes the
+// one buffer of the pool that it found, for stream 0.
 fn is_no_stream_late<R: Wait + Abort, M: Monitor<Pool>>(rt: &R, m: &M, out: M::Out)
     requires { M.is_of m.now out }
 {
@@ -82,7 +83,8 @@ fn is_no_stream_late<R: Wait + Abort, M: Monitor<Pool>>(rt: &R, m: &M, out: M::O
     expect_same(rt, (first, least), (0, 0));
 }
 
-// A sleeper finds a time past its setting, which isn't ready for it, then a time before it, and then its setting.
+// The first answer, a time after the setting, isn't ready for the sleeper: the monitor drops it. The sleeper resumes at
+// a time before its setting, waits again, and resumes at its setting.
 #[test]
 fn a_sleeper_waits_until_its_setting(host: HostRuntime) {
     let answers = [Alarm::at(3), Alarm::at(1), Alarm::at(2)];
@@ -90,8 +92,8 @@ fn a_sleeper_waits_until_its_setting(host: HostRuntime) {
     on_clock(&host, host.alloc(), 0, answers, &steps);
 }
 
-// One tick before the last time the clock can tick once, and can be set to the last time. At the last time no setting
-// past it is possible, and no tick. A sleeper that sets the last time then continues at once.
+// The clock begins one tick before the last time. It can tick once, and a sleeper can set the last time. At the last
+// time a later setting and a tick are refused, and a sleeper that sets the last time continues at once.
 #[test]
 fn the_last_time_is_one_that_is_met(host: HostRuntime) {
     let (rt, alloc) = (&host, host.alloc());
@@ -114,7 +116,7 @@ fn the_last_time_is_one_that_is_met(host: HostRuntime) {
     on_clock(rt, alloc, last - 1, [], &ticks);
 }
 
-// A stream waits for the one buffer, and finds a pool in which its number is no stream's.
+// A process waits for stream 1 until a buffer is free, and finds a pool that has no stream 1.
 #[test]
 fn late_no_stream(host: HostRuntime) {
     let (rt, alloc) = (&host, host.alloc());

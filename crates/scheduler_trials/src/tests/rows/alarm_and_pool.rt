@@ -1,3 +1,3 @@
-//! Hoare's schedulers whose processes wait with priorities, on both doors.
+//! The alarm clock and the pool, on each door.
 pub mod alarm;
 pub mod pool;

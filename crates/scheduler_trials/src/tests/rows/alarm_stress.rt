@@ -1,5 +1,5 @@
-//! Five sleepers set random times, and the clock ticks when all of them wait. What they wrote down is checked against
-//! what an alarm clock is.
+//! Five sleepers set random times, and the clock ticks when all that haven't finished wait. What they wrote down is
+//! checked against what an alarm clock does.
 ghost use Rattle.std.specs.Prelude.{◌≡◌};
 
 use crate::tests::compared::expect_same;
@@ -36,8 +36,7 @@ struct Clockwork {
 }
 
 impl Rules<Line> for Clockwork {
-    // A sleeper wakes at its setting. The clock advances by one, when no sleeper is
-    // due any more.
+    // A sleeper wakes at its setting. The clock advances by one, and only if no sleeper is due any more.
     fn allows(&mut self, line: Line) -> bool {
         match line {
             Line::Sets { place, ticks } => {
@@ -70,7 +69,7 @@ fn count_sleeps(lines: &[Line]) -> (usize, usize) {
     (sleeps, ticked)
 }
 
-// Sleeps for a random time, from 0 to 3 ticks, in each round.
+// Sleeps for a random number of ticks, from 0 to 3, in each round.
 fn sleeps_on<R: Wait + Abort, M: Monitor<Alarm>>(
     rt: &R,
     m: &M,
@@ -97,7 +96,7 @@ fn sleeps_on<R: Wait + Abort, M: Monitor<Alarm>>(
     out
 }
 
-// Ticks whenever all sleepers that have not finished wait, until all have finished.
+// Ticks whenever all sleepers that have not finished wait, until all have finished. Fails the test after 4,000 ticks.
 fn ticks_on<R: Wait + Abort, M: Monitor<Alarm>>(
     rt: &R,
     m: &M,
@@ -141,7 +140,8 @@ pub fn sleeps_or_ticks_on<R: Wait + Abort, M: Monitor<Alarm>>(
     }
 }
 
-/// Fails the test unless the lines are what a clock does, all were written, and a tick woke more than one sleeper.
+/// Fails the test unless the lines are what a clock does, all were written, and there were fewer ticks than sleeps of a
+/// tick or more: so some tick woke more than one sleeper.
 pub fn is_a_clock<R: Abort>(rt: &R, log: Log<Line>) {
     let mut clock = Clockwork {
         now: 0,

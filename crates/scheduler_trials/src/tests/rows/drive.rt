@@ -10,7 +10,8 @@ use sweep_schedulers::head::Head;
 /// The cylinders at which a drive was, in order.
 pub type Trip = Vec<u16>;
 
-/// Requests the drive for cylinder `dest`, and adds the cylinder to the trip. Returns the drive.
+/// Requests the drive for cylinder `dest`, and adds the cylinder to the trip. Returns the drive. Fails the test if the
+/// request is refused, or if out of memory.
 pub fn goes<R: Wait + Abort, M: Monitor<Head<Trip>>>(
     rt: &R,
     m: &M,

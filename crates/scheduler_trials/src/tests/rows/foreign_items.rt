@@ -12,7 +12,7 @@ use std::process::Abort;
 use std::sync::Wait;
 use test_support::on_any_door;
 
-// Returns the only place of a monitor.
+// Returns the only place of a monitor. Fails the test unless there is exactly one.
 fn only<O: Drop, R: Abort>(rt: &R, outs: Vec<O>) -> O
     ensures { outs.items ≡ result ∷ [] }
 {
@@ -103,8 +103,8 @@ fn change_items<R: Wait + Abort, M: Monitor<Single<u64>>>(
     (alone(rt, alloc, out), alone(rt, alloc, other))
 }
 
-// Lets the items of two monitors change places on doors of this kind. Returns the items that the monitors have at the
-// end.
+// Creates two monitors, doors of this kind, and puts the item of each into the other. Returns the items that the
+// monitors have at the end: the first has none, since its new item is taken out again.
 fn change_on<R: Wait + Abort>(rt: &R, alloc: Global, kind: DoorKind) -> [Option<u64>; 2] {
     let (first, outs) = door(rt, alloc, kind, Single::with(7u64), 1);
     let (second, others) = door(rt, alloc, kind, Single::with(8u64), 1);

@@ -19,9 +19,9 @@ use std::sync::Wait;
 use sweep_schedulers::head::{Head, OffDisk};
 use sweep_schedulers::not_out::NotOut;
 
-/// Takes the drive to cylinder 50 and keeps it until the others wait; if the plan has an idle release, it does so
-/// twice, and releases the drive in between. Then releases the drive, and takes it to the cylinder `last` when all
-/// others had it. The drive must have been at the cylinders of the plan.
+/// Takes the drive to cylinder 50; if the plan has an idle release, releases it there and takes it again. Keeps the
+/// drive until the others wait, releases it, and requests cylinder `last`, which comes after those of the others. Fails
+/// the test unless the drive has then been at the cylinders of the plan. Releases the drive.
 fn leads<R: Wait + Abort, M: Monitor<Head<Trip>>>(
     rt: &R,
     m: &M,
@@ -48,7 +48,7 @@ fn leads<R: Wait + Abort, M: Monitor<Head<Trip>>>(
     hands_on(rt, m, out, drive)
 }
 
-/// Takes the drive to the planned cylinder at this turn, and releases it.
+/// Awaits the turn, takes the drive to the cylinder that is planned for it, and releases the drive.
 fn follows<R: Wait + Abort + Clock, M: Monitor<Head<Trip>>>(
     rt: &R,
     m: &M,
@@ -69,7 +69,8 @@ fn follows<R: Wait + Abort + Clock, M: Monitor<Head<Trip>>>(
     hands_on(rt, m, out, drive)
 }
 
-/// Requests a cylinder past the last one. Fails the test unless that is refused.
+/// Requests cylinder `past`. Fails the test unless that is refused: the cylinder is past the last one, or the request
+/// waits and finds a disk with another last cylinder.
 pub fn is_off_disk<R: Wait + Abort, M: Monitor<Head<Trip>>>(
     rt: &R,
     m: &M,
@@ -85,8 +86,8 @@ pub fn is_off_disk<R: Wait + Abort, M: Monitor<Head<Trip>>>(
     out
 }
 
-/// Requests a cylinder past the last one, and puts a second drive in. Fails the test unless the request is refused and
-/// the drive is given back.
+/// Requests cylinder `past`, and attempts to put a second drive in while the drive is in. Fails the test unless the
+/// request is refused and the second drive is given back.
 pub fn is_refused<R: Wait + Abort, M: Monitor<Head<Trip>>>(
     rt: &R,
     m: &M,
@@ -108,20 +109,20 @@ pub fn is_refused<R: Wait + Abort, M: Monitor<Head<Trip>>>(
     out
 }
 
-/// Which cylinders the places request while the drive is at 50, in their order.
+/// Which cylinders the places request while the drive is at 50: `dests`, in the order of the places from 1 on.
 #[derive(Drop)]
 struct Plan<'a> {
-    /// True if the drive is released once before, while no place waits.
+    /// True if the drive is released once before those requests, while no place waits.
     is_idle_once: bool,
     dests: &'a [u16],
-    /// The cylinder of the last request.
+    /// The cylinder of the last request, which place 0 makes.
     last: u16,
-    /// The cylinders at which the drive has been by then.
+    /// The cylinders at which the drive has been when the last request has it.
     trip: &'a [u16],
 }
 
-// Place 0 has the drive while the others request it in the order of their numbers. When all had it, place 0 makes the
-// calls that are refused.
+// Place 0 has the drive while the others request it in the order of their numbers. When all have had it, place 0 makes
+// the calls that must be refused.
 fn leads_or_follows<R: Wait + Abort + Clock, M: Monitor<Head<Trip>>>(
     rt: &R,
     m: &M,

@@ -1,5 +1,5 @@
 //! A request for the cylinder of the head waits for the other sweep, and the head counts the grants that are still due
-//! there.
+//! at that cylinder.
 ghost use Rattle.std.specs.Prelude.{◌≡◌};
 
 use crate::tests::compared::expect_same;
@@ -14,7 +14,7 @@ use sweep_schedulers::head::Head;
 /// Number of places that request the drive.
 pub const ASKING: usize = 5;
 
-/// Takes the drive to the cylinder, and appends to the trip how many grants are then due there: `stay`.
+/// Takes the drive to cylinder `dest`, and appends to the trip how many grants are then still due there: `stay`.
 pub fn counts<R: Wait + Abort, M: Monitor<Head<Trip>>>(
     rt: &R,
     m: &M,

@@ -1,5 +1,5 @@
-//! Five processes request random cylinders, and each releases the drive when the others wait for it. What they wrote
-//! down is checked against what a sweep is.
+//! Five processes request random cylinders, and each releases the drive when all others that haven't finished wait for
+//! it. What they wrote down is checked against what a sweep is.
 ghost use Rattle.std.specs.Prelude.{◌≡◌};
 
 use crate::tests::compared::expect_same;
@@ -67,8 +67,8 @@ impl Elevator {
             .min_by_key(|wish| wish.dest.abs_diff(self.at))
     }
 
-    // A place that made its request since the drive came here waits for the way on which the drive comes to its
-    // cylinder.
+    // Records for each place that made its request since the drive came here that it waits for the way on which the
+    // drive comes to its cylinder.
     fn sort_wishes(&mut self) {
         for place in 0..PLACES {
             if let Some(wish) = self.wishes[place] {
@@ -80,7 +80,8 @@ impl Elevator {
         }
     }
 
-    // The drive keeps its way. If no place waits there, it turns.
+    // Chooses the next wish, the nearest on the way of the drive. If no place waits for that way, the drive turns
+    // first.
     fn go_on(&mut self) {
         self.sort_wishes();
         self.next = self.nearest(self.goes_up);
@@ -90,8 +91,8 @@ impl Elevator {
         }
     }
 
-    // Returns true if the place may have the drive at `dest`: that is its wish, and, if any place waited, the wish that
-    // is next. Records that the place has it.
+    // Returns true if the place may have the drive at `dest`: that is its wish; it is the wish that is next, if one was
+    // chosen; and no other place has the drive. Records that the place has it.
     fn lets(&mut self, place: usize, dest: u16) -> bool {
         if place >= PLACES {
             return false;

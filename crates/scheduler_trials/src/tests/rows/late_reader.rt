@@ -13,7 +13,7 @@ use std::sync::Wait;
 use std::sync::atomic::{AtomicU32, Ordering};
 
 // Starts this many reads, lets the writer and then the late reader begin to wait, and ends the reads. Counts each read
-// just before its end. The writer and the late reader wait until the last read ends.
+// just before its end. Just before that the writer and the late reader must still wait.
 fn reads_while_both_wait<R: Wait + Abort, M: Monitor<Shared>>(
     rt: &R,
     m: &M,
@@ -38,7 +38,7 @@ fn reads_while_both_wait<R: Wait + Abort, M: Monitor<Shared>>(
     ends_read(rt, m, out, pass)
 }
 
-// Is the first of the two to wait. Finds 4, and writes 6, after all the reads.
+// Begins to wait as the first of the two. Finds 4, and writes 6, after all the reads.
 fn writes_after_all<R: Wait + Abort + Clock, M: Monitor<Shared>>(
     rt: &R,
     m: &M,
@@ -56,7 +56,7 @@ fn writes_after_all<R: Wait + Abort + Clock, M: Monitor<Shared>>(
     ends_write(rt, m, out, 6)
 }
 
-// Comes late, and reads what was written.
+// Begins to wait after the writer, and reads what was written, 6.
 fn reads_late<R: Wait + Abort + Clock, M: Monitor<Shared>>(
     rt: &R,
     m: &M,
@@ -73,7 +73,7 @@ fn reads_late<R: Wait + Abort + Clock, M: Monitor<Shared>>(
     ends_read(rt, m, out, pass)
 }
 
-/// Place 0 makes all the reads, place 1 writes, and place 2 is the late reader.
+/// Place 0 makes 1,024 reads, place 1 writes, and place 2 is the late reader.
 pub fn reads_or_writes_late<R: Wait + Abort + Clock, M: Monitor<Shared>>(
     rt: &R,
     m: &M,

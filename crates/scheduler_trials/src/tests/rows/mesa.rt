@@ -15,15 +15,15 @@ use std::rt::Clock;
 use std::sync::Wait;
 use test_support::running::count_waiting;
 
-/// Creates a buffer of this many cells, with Mesa conditions. Fails the test if out of memory.
+/// Creates a buffer of this many cells, with Mesa conditions. Fails the test if that is refused.
 fn with_cells<R: Abort>(rt: &R, alloc: Global, cells: usize) -> MesaBuffer<u64>
     ensures { BufferHolds result }
 {
     MesaBuffer::make(alloc, cells).expect(rt, "there is memory for a buffer of this size")
 }
 
-// Lets two others wait for an item, and notifies both though there is none: they wait again before this place enters
-// again. Then appends an item for each. Returns how many waiters the broadcast notified.
+// Lets two other places wait for an item, and notifies both though there is none: both wait again before this place
+// enters again. Then appends an item for each. Returns how many waiters the broadcast notified.
 fn calls<R: Wait + Abort, M: Monitor<MesaBuffer<u64>>>(
     rt: &R,
     m: &M,
@@ -46,7 +46,8 @@ fn calls<R: Wait + Abort, M: Monitor<MesaBuffer<u64>>>(
     (out, called as u64)
 }
 
-// Place 0 notifies the others, which wait for an item in the order of their numbers.
+// Place 0 notifies the others, which begin to wait for an item in the order of their numbers. Each of them returns its
+// item.
 fn calls_or_removes<R: Wait + Abort + Clock, M: Monitor<MesaBuffer<u64>>>(
     rt: &R,
     m: &M,
@@ -65,7 +66,7 @@ fn calls_or_removes<R: Wait + Abort + Clock, M: Monitor<MesaBuffer<u64>>>(
     MesaBuffer::remove(m, rt, out)
 }
 
-// Notifies all waiters, without a cause.
+// Notifies all waiters on both conditions, though nothing has changed.
 fn calls_all<R: Wait, M: Monitor<MesaBuffer<u64>>>(rt: &R, m: &M, out: M::Out) -> M::Out
     requires { M.is_of m.now out }
     ensures of { M.is_of m.now result }
@@ -78,7 +79,7 @@ fn calls_all<R: Wait, M: Monitor<MesaBuffer<u64>>>(rt: &R, m: &M, out: M::Out) -
 }
 
 // An even place appends the numbers from 1 to `count`. An odd place removes as many items, and returns their sum.
-// Before every third call the place notifies all others, without a cause.
+// Before every third call the place notifies all waiters, though nothing has changed.
 fn trades<R: Wait, M: Monitor<MesaBuffer<u64>>>(
     rt: &R,
     m: &M,
@@ -143,8 +144,8 @@ fn setting(row: MesaRow<'_>) -> (usize, usize) {
     }
 }
 
-// Returns true if the places returned what they must. In the second row the sum of the items that were removed must be
-// that of the items appended.
+// Returns true if the places of the row returned what they must. In the second row the sum of the items that were
+// removed must be that of the items appended.
 fn agrees(row: MesaRow<'_>, answers: &[u64]) -> bool {
     match row {
         MesaRow::WhoIsCalledTestsAgain(_) => answers == [2, 1, 2].as_slice(),
@@ -154,7 +155,7 @@ fn agrees(row: MesaRow<'_>, answers: &[u64]) -> bool {
     }
 }
 
-// Fails the test if the places returned something else.
+// Fails the test unless the places of the row returned what they must.
 fn holds<R: Abort>(rt: &R, door: DoorType, row: MesaRow<'_>, answers: &[u64]) {
     let wanted = (door, answers, true);
     expect_same(rt, (door, answers, agrees(row, answers)), wanted);

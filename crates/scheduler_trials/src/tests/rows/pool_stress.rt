@@ -1,5 +1,4 @@
-//! Four streams take two buffers each, of five, as often as they can. What they wrote down is checked against what a
-//! pool is.
+//! Four streams take two buffers each, of five, 200 times. What they wrote down is checked against what a pool does.
 ghost use Rattle.std.specs.Prelude.{◌≡◌};
 
 use crate::tests::compared::expect_same;
@@ -15,7 +14,8 @@ use timed_schedulers::pool::Pool;
 /// Number of streams that take buffers.
 pub const STREAMS: u32 = 4;
 
-/// Number of buffers: enough that no stream waits for its second buffer for ever, since the others can't have all.
+/// Number of buffers. There is one more than there are streams: if none is free, some stream has two, and will give
+/// both back. So the streams don't all wait for a second buffer.
 pub const BUFFERS: u32 = 5;
 
 /// Number of times that each stream takes two buffers.
@@ -35,7 +35,7 @@ pub enum Line {
 struct Holders([Option<u32>; BUFFERS as usize]);
 
 impl Rules<Line> for Holders {
-    // A buffer has one holder, which gives it back.
+    // A buffer has at most one holder, which alone gives it back.
     fn allows(&mut self, line: Line) -> bool {
         match line {
             Line::Has { stream, buffer } => {
@@ -48,7 +48,7 @@ impl Rules<Line> for Holders {
     }
 }
 
-// Takes a buffer, and writes that down. Returns its number.
+// Takes a buffer for the stream, and writes that down. Returns the number of the buffer.
 fn holds<R: Wait + Abort, M: Monitor<Pool>>(
     rt: &R,
     m: &M,
@@ -65,7 +65,7 @@ fn holds<R: Wait + Abort, M: Monitor<Pool>>(
     (out, buffer)
 }
 
-// Writes down that it gives the buffer back, and gives it back.
+// Writes down that the stream gives the buffer back, and gives it back.
 fn lets_go<R: Wait + Abort, M: Monitor<Pool>>(
     rt: &R,
     m: &M,
@@ -82,7 +82,7 @@ fn lets_go<R: Wait + Abort, M: Monitor<Pool>>(
     gives(rt, m, out, stream, buffer, Ok(()))
 }
 
-// Takes two buffers and gives them back, in each round.
+// Takes two buffers for the stream and gives them back, in each round.
 fn uses_two<R: Wait + Abort + Clock, M: Monitor<Pool>>(
     rt: &R,
     m: &M,
@@ -106,7 +106,8 @@ fn uses_two<R: Wait + Abort + Clock, M: Monitor<Pool>>(
     out
 }
 
-// When all others have finished, takes all buffers: each must be free.
+// When all streams have finished, takes all buffers for stream 0. They must come in the order of their numbers, so each
+// is free.
 fn takes_all<R: Wait + Abort, M: Monitor<Pool>>(
     rt: &R,
     m: &M,
@@ -127,7 +128,8 @@ fn takes_all<R: Wait + Abort, M: Monitor<Pool>>(
     out
 }
 
-/// Each place but the last is a stream. The last place takes all buffers when the streams are done.
+/// Each place but the last acts for the stream with its number. The last place takes all buffers when the streams have
+/// finished.
 pub fn uses_or_takes_all<R: Wait + Abort + Clock, M: Monitor<Pool>>(
     rt: &R,
     m: &M,

@@ -21,7 +21,7 @@ use std::sync::Wait;
 use std::sync::atomic::AtomicU32;
 use sweep_schedulers::readers_writers::{NoReader, ReadersWriters};
 
-/// Writes `value` over `expected`, and attempts to write another number, which is given back.
+/// Writes `value` over `expected`. Then attempts to end one more write, with another number, which must be given back.
 pub fn writes<R: Wait + Abort, M: Monitor<Shared>>(
     rt: &R,
     m: &M,
@@ -38,8 +38,8 @@ pub fn writes<R: Wait + Abort, M: Monitor<Shared>>(
     ends_no_write(rt, m, out, value.wrapping_add(1))
 }
 
-/// Starts this many reads, the last of which is the last that there is room for. One more is refused, and succeeds
-/// after one has ended. Then each read ends with its own pass.
+/// Starts this many reads; with the last of them the most readers must be in. Then one more read must be refused, and
+/// must succeed after a read has ended. Then each read ends with its own pass. Each read must find `value`.
 pub fn reads_to_the_limit<R: Wait + Abort, M: Monitor<Shared>>(
     rt: &R,
     m: &M,
@@ -62,8 +62,8 @@ pub fn reads_to_the_limit<R: Wait + Abort, M: Monitor<Shared>>(
     ends_read(rt, m, out, pass)
 }
 
-// Ends a read of another monitor while no reader is in. The refusal says so and gives the pass back; the pass then ends
-// the read at the other monitor.
+// Starts a read at `other`, and attempts to end it at `m`, at which no reader is in. The refusal must say so and give
+// the pass back, which then ends the read at `other`.
 fn ends_foreign_read<R: Wait + Abort, M: Monitor<Shared>, N: Monitor<Shared>>(
     rt: &R,
     alloc: Global,
@@ -88,7 +88,8 @@ fn ends_foreign_read<R: Wait + Abort, M: Monitor<Shared>, N: Monitor<Shared>>(
     out
 }
 
-/// Ends a read while no reader is in. Fails the test unless the pass, which is another monitor's, is given back.
+/// Attempts to end a read while no reader is in. Fails the test unless that is refused, and the pass, which is from
+/// another monitor, is given back.
 pub fn ends_no_read<R: Wait + Abort, M: Monitor<Shared>>(
     rt: &R,
     alloc: Global,
@@ -103,8 +104,8 @@ pub fn ends_no_read<R: Wait + Abort, M: Monitor<Shared>>(
     ends_foreign_read(rt, alloc, m, out, &fake, other)
 }
 
-/// Is in as the writer while the others begin to wait, and writes 3. Then both readers are in at once, and the other
-/// writer still waits.
+/// Is in as the writer while two readers and a writer begin to wait, and writes 3. Then both readers must be in at once
+/// while the other writer still waits.
 fn writes_first<R: Wait + Abort, M: Monitor<Shared>>(
     rt: &R,
     m: &M,
@@ -126,7 +127,7 @@ fn writes_first<R: Wait + Abort, M: Monitor<Shared>>(
     out
 }
 
-/// Reads 3 at this turn, and ends the read at turn 4.
+/// Asks to read at this turn, must find 3, and ends the read at turn 4.
 fn reads<R: Wait + Abort + Clock, M: Monitor<Shared>>(
     rt: &R,
     m: &M,
@@ -144,8 +145,8 @@ fn reads<R: Wait + Abort + Clock, M: Monitor<Shared>>(
     ends_read(rt, m, out, pass)
 }
 
-/// Writes 4 after both readers, and is then the only place that acts. It reads as often as there is room for, and ends
-/// a read while no reader is in.
+/// Writes 4 after both readers, and is then the only place that acts. It starts as many reads as there is room for,
+/// ends them, and attempts to end one more.
 fn writes_last<R: Wait + Abort + Clock, M: Monitor<Shared>>(
     rt: &R,
     alloc: Global,
@@ -231,7 +232,7 @@ fn setting(row: ReadersRow<'_>) -> (u64, usize) {
     }
 }
 
-// Returns true if the last value of the row is what it must be. (That of many writes is whichever came last.)
+// Returns true if `value` may be the last value of the row. (In the third row it is that of whichever write came last.)
 fn agrees(row: ReadersRow<'_>, value: u64) -> bool {
     match row {
         ReadersRow::ReadersAndWriters(_, _) => value == 4,
@@ -240,7 +241,7 @@ fn agrees(row: ReadersRow<'_>, value: u64) -> bool {
     }
 }
 
-// Fails the test if the row left another value.
+// Fails the test unless `value`, which the row left, is one that it may leave.
 fn holds<R: Abort>(rt: &R, door: DoorType, row: ReadersRow<'_>, value: u64) {
     let wanted = (door, value, true);
     expect_same(rt, (door, value, agrees(row, value)), wanted);

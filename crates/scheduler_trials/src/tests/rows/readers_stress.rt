@@ -1,5 +1,5 @@
-//! Three processes read and two write, each as often as it can. What they wrote down is checked against what readers
-//! and writers may do.
+//! Three processes read and two write, each 200 times. What they wrote down is checked against what readers and writers
+//! may do.
 ghost use Rattle.std.specs.Prelude.{◌≡◌, ◌<◌};
 
 use crate::tests::rows::reading::{Shared, ends_read, ends_write, waiting};
@@ -40,7 +40,7 @@ pub enum Line {
         place: usize,
         value: u64,
     },
-    /// The place is about to end its write and leave this value, while this many places wait to read.
+    /// The place is about to end its write and leave this value. At least this many places wait to read.
     EndsWrite {
         place: usize,
         value: u64,
@@ -50,9 +50,9 @@ pub enum Line {
     Wrote,
 }
 
-/// Readers and writers as they should be: which places are in, how many writers are about to end, and the value. Also
-/// which places may not read before the next write, how often that was so, and how many reads come before the next
-/// write.
+/// Readers and writers as they should be: which places are in, how many writes are about to end or ended just now
+/// (`leaving`), and the value. Also which places may not read before the next write (`must_wait`), how often a place
+/// was found to be one (`met_writers`), and how many reads must still come before the next write (`read_first`).
 #[derive(Drop)]
 struct Room {
     reading: [bool; PLACES],
@@ -87,8 +87,8 @@ impl Room {
         is_alone && value == self.value && self.read_first == 0
     }
 
-    // If a writer is in or about to end, the reader may wait for the end of that write alone. Otherwise it must wait
-    // for a writer that waits.
+    // Records that the place, which is about to ask to read, sees a writer wait. If a writer is in or about to end, the
+    // place may have to wait for the end of that write alone. Otherwise it must not read before the next write.
     fn sees(&mut self, place: usize)
         requires { place < PLACES }
     {
@@ -131,7 +131,8 @@ impl Rules<Line> for Room {
     }
 }
 
-// Asks to read. Writes down, before that, whether a process waits to write, and then the value that the place found.
+// Writes down that a process waits to write, if one does. Then asks to read, and writes down the value that the place
+// found.
 fn looks_and_reads<R: Wait + Abort, M: Monitor<Shared>>(
     rt: &R,
     m: &M,
@@ -156,7 +157,7 @@ fn looks_and_reads<R: Wait + Abort, M: Monitor<Shared>>(
     (out, pass)
 }
 
-// Reads in each round.
+// Reads in each round, and lingers before it ends the read.
 fn reads_on<R: Wait + Abort + Clock, M: Monitor<Shared>>(
     rt: &R,
     m: &M,
@@ -209,7 +210,7 @@ fn writes_on<R: Wait + Abort + Clock, M: Monitor<Shared>>(
     out
 }
 
-/// The first places read, and the others write.
+/// Places 0 to 2 read, and places 3 and 4 write.
 pub fn reads_or_writes_on<R: Wait + Abort + Clock, M: Monitor<Shared>>(
     rt: &R,
     m: &M,
@@ -228,7 +229,7 @@ pub fn reads_or_writes_on<R: Wait + Abort + Clock, M: Monitor<Shared>>(
     }
 }
 
-// Returns how many places waited to read when a write ended, over all writes.
+// Returns the number of places that were seen to wait to read when a write was about to end, summed over all writes.
 fn count_first(lines: &[Line]) -> usize {
     let mut sum = 0usize;
     for line in lines {
@@ -239,7 +240,8 @@ fn count_first(lines: &[Line]) -> usize {
     sum
 }
 
-/// Fails the test unless the lines are what readers and writers do, and they had to wait for each other.
+/// Fails the test unless the lines are what readers and writers may do. At least ten times a reader must have seen a
+/// waiting writer that goes before it, and at least ten reads must have waited for the end of a write.
 pub fn is_read_and_written<R: Abort>(rt: &R, log: Log<Line>) {
     let mut room = Room {
         reading: [false; PLACES],

@@ -1,4 +1,5 @@
-//! What readers and writers do, one call each.
+//! What readers and writers do: each function makes one call of theirs and fails the test unless it returns what it
+//! must. `waiting` counts the waiters.
 ghost use Rattle.std.specs.Prelude.{◌≡◌};
 
 use crate::tests::compared::expect_same;
@@ -31,7 +32,7 @@ pub fn starts_read<R: Wait + Abort, M: Monitor<Shared>>(
     (out, pass)
 }
 
-/// Ends a read.
+/// Ends a read. Fails the test if that is refused.
 pub fn ends_read<R: Wait + Abort, M: Monitor<Shared>>(
     rt: &R,
     m: &M,
@@ -65,7 +66,7 @@ pub fn starts_write<R: Wait + Abort, M: Monitor<Shared>>(
     out
 }
 
-/// Ends a write, and leaves `value`.
+/// Ends a write, and leaves `value`. Fails the test if that is refused.
 pub fn ends_write<R: Wait + Abort, M: Monitor<Shared>>(
     rt: &R,
     m: &M,
@@ -81,7 +82,7 @@ pub fn ends_write<R: Wait + Abort, M: Monitor<Shared>>(
     out
 }
 
-/// Ends a write while no writer is in. Fails the test unless the number is given back.
+/// Attempts to end a write while no writer is in. Fails the test unless that is refused, and `value` is given back.
 pub fn ends_no_write<R: Wait + Abort, M: Monitor<Shared>>(
     rt: &R,
     m: &M,
@@ -100,7 +101,7 @@ pub fn ends_no_write<R: Wait + Abort, M: Monitor<Shared>>(
     out
 }
 
-/// Asks to read while the most readers are in. Fails the test unless that is refused.
+/// Asks to read. Fails the test unless that is refused, at once or after a wait, since the most readers are in.
 pub fn is_one_too_many<R: Wait + Abort, M: Monitor<Shared>>(rt: &R, m: &M, out: M::Out) -> M::Out
     requires { M.is_of m.now out }
     ensures of { M.is_of m.now result }
@@ -113,7 +114,7 @@ pub fn is_one_too_many<R: Wait + Abort, M: Monitor<Shared>>(rt: &R, m: &M, out: 
     }
 }
 
-/// Returns how many processes wait to read, and how many to write.
+/// Enters, counts the processes that wait to read and those that wait to write, and leaves. Returns both counts.
 pub fn waiting<R: Wait, M: Monitor<Shared>>(rt: &R, m: &M, out: M::Out) -> (M::Out, (usize, usize))
     requires { M.is_of m.now out }
     ensures of { M.is_of m.now result.0 }

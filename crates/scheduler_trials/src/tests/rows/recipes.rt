@@ -1,5 +1,5 @@
-//! The recipes of the cookbook on threads. Except at a rendezvous the answers of the places have the same sum on every
-//! schedule.
+//! The recipes of the cookbook on threads. The answers of the places have the same sum on every schedule, which the
+//! test compares. Of a rendezvous it compares instead which places were paired.
 ghost use Rattle.std.specs.Prelude.{◌≡◌};
 ghost use Rattle.hoare_law.specs.Priorities.{nobody};
 
@@ -26,7 +26,8 @@ use std::thread;
 use std::thread::Threads;
 use std::time::Duration;
 
-/// What the places of a row share besides the monitor: turns, and a count of what is done.
+/// What the places of a row share besides the monitor: turns, and a number for what is done, which each recipe uses in
+/// its own way.
 #[derive(Drop)]
 struct Shared {
     turns: Turns,
@@ -43,8 +44,8 @@ fn digit(arrival: Arrival, generation: u64) -> u64 {
 }
 
 impl Row<Barrier> for Shared {
-    // Each of four parties arrives twice, and counts itself before. Fails the test unless a round ends after all four
-    // were counted.
+    // Each of four parties arrives twice, and before each arrival counts itself. Fails the test unless, when a round
+    // ends, all four were counted for it.
     fn act<R: Wait + Abort + Clock, M: Monitor<Barrier, Out = DoorOut<Barrier>>>(
         &self,
         rt: &R,
@@ -66,7 +67,8 @@ impl Row<Barrier> for Shared {
 }
 
 impl Row<Latch> for Shared {
-    // Places 0 to 2 pass, and return how many parts are done then. Each of the others does a part when three wait.
+    // Places 0 to 2 pass, and return how many parts are done then. Each of the places 3 to 5 does a part and counts
+    // down, when three wait.
     fn act<R: Wait + Abort + Clock, M: Monitor<Latch, Out = DoorOut<Latch>>>(
         &self,
         rt: &R,
@@ -89,8 +91,8 @@ impl Row<Latch> for Shared {
 }
 
 impl Row<Drain> for Shared {
-    // Each of the places 0 to 2 begins a part, and does it when three wait. The others then drain, and return how many
-    // parts are done.
+    // Places 0 to 2 begin a part each, in this order. Then places 3 to 5 call `drain`, and return how many parts are
+    // done when it returns. Places 0 to 2 do their parts and end them when three processes wait.
     fn act<R: Wait + Abort + Clock, M: Monitor<Drain, Out = DoorOut<Drain>>>(
         &self,
         rt: &R,
@@ -117,8 +119,9 @@ impl Row<Drain> for Shared {
     }
 }
 
-// Place 0 sends eight letters in no order, and eight that are less urgent: the last when place 1 waits for it. Place 1
-// begins when place 0 waits for room. It receives all, and returns how many came in the order of urgency.
+// Place 0 sends eight letters that aren't in the order of urgency, and then eight that are less urgent, in that order:
+// the last of them when place 1 waits for it. Place 1 begins when place 0 waits for room. It receives all sixteen, and
+// returns how many came in the order of urgency.
 fn posts<R: Wait + Abort, M: Monitor<Mailbox>>(
     rt: &R,
     m: &M,
@@ -166,7 +169,7 @@ impl Row<Mailbox> for Shared {
 }
 
 impl Row<Rendezvous<u64>> for Shared {
-    // Each place meets another once, and returns the other's number.
+    // Each place meets another once, and returns the number of the other place.
     fn act<R: Wait + Abort + Clock, M: Monitor<Rendezvous<u64>, Out = DoorOut<Rendezvous<u64>>>>(
         &self,
         rt: &R,
@@ -183,8 +186,8 @@ impl Row<Rendezvous<u64>> for Shared {
 }
 
 impl Row<Table> for Shared {
-    // Ten philosophers, two for each seat, eat once each. Bit k of `done` is set while the philosopher at seat k eats.
-    // Fails the test if another eats at the seat of the place, or beside it, while the place eats.
+    // Ten philosophers, two for each seat, eat once each, and return 1. Bit k of `done` is set while a philosopher eats
+    // at seat k. Fails the test if another eats at the seat of the place, or beside it, when the place begins to eat.
     fn act<R: Wait + Abort + Clock, M: Monitor<Table, Out = DoorOut<Table>>>(
         &self,
         rt: &R,
@@ -212,7 +215,8 @@ impl Row<Table> for Shared {
     }
 }
 
-// Puts in eight jobs when all four workers wait. Each job is a hexadecimal digit 1 in a place of its own.
+// Puts in eight jobs when all four workers wait. Each job is a number with one hexadecimal digit 1, at a position of
+// its own, and else zeros.
 fn puts<R: Wait + Abort, M: Monitor<WorkQueue>>(rt: &R, m: &M, out: M::Out) -> M::Out
     requires { M.is_of m.now out }
     ensures of { M.is_of m.now result }
@@ -227,7 +231,8 @@ fn puts<R: Wait + Abort, M: Monitor<WorkQueue>>(rt: &R, m: &M, out: M::Out) -> M
     out
 }
 
-// Takes jobs until there is none. Does each in a millisecond, and adds it to `done`.
+// Takes jobs until `take` returns `None`. Sleeps a millisecond for each job, and adds it to `done`. Fails the test
+// after seventeen jobs.
 fn takes<R: Wait + Abort + Clock, M: Monitor<WorkQueue>>(
     rt: &R,
     m: &M,
@@ -250,8 +255,8 @@ fn takes<R: Wait + Abort + Clock, M: Monitor<WorkQueue>>(
 }
 
 impl Row<WorkQueue> for Shared {
-    // Place 0 puts in each job twice, shuts the queue down, and returns the sum of the jobs that are done then. The
-    // others are workers.
+    // Place 0 puts in each job twice, shuts the queue down, and returns the sum of the jobs that are done then; a later
+    // job must be refused. The others are workers.
     fn act<R: Wait + Abort + Clock, M: Monitor<WorkQueue, Out = DoorOut<WorkQueue>>>(
         &self,
         rt: &R,
@@ -304,7 +309,7 @@ fn sum_is<R: Abort>(rt: &R, door: DoorType, answers: Vec<u64>, wanted: u64) {
     expect_same(rt, (door, sum), (door, wanted));
 }
 
-// Returns true if each place got the number of a place that got its own.
+// Returns true if the answer of each place is the number of another place, whose answer is the number of the first.
 fn are_paired(answers: &[u64]) -> bool {
     for place in 0..answers.len() {
         let other = answers[place];

@@ -14,7 +14,7 @@ use std::rt::Clock;
 use std::sync::Wait;
 use std::sync::atomic::{AtomicBool, Ordering};
 
-// Takes the item, gives a sign, lets another place wait for it, and puts it back. Returns what it took.
+// Takes the item, gives a sign, and puts 7 in when another place waits for the item. Returns what it took.
 fn lends<R: Wait + Abort, M: Monitor<Single<u64>>>(
     rt: &R,
     m: &M,
@@ -33,8 +33,8 @@ fn lends<R: Wait + Abort, M: Monitor<Single<u64>>>(
     (out, item)
 }
 
-// Waits for the item after the sign, puts it back, attempts to put a second item in, and takes the first again. Returns
-// what it took at first.
+// Takes the item after the sign, once it is in, and puts 7 in. Then a second item must be refused, and 7 is taken out
+// again. Returns what it took at first.
 fn borrows<R: Wait + Abort + Clock, M: Monitor<Single<u64>>>(
     rt: &R,
     m: &M,

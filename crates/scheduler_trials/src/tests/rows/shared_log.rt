@@ -1,4 +1,5 @@
-//! What the processes of a stress test write down outside the monitor, in one order, and how they pass the time.
+//! What the processes of a stress test write down, in one order, in a log that isn't the monitor's data; and how they
+//! pass the time.
 ghost use Rattle.std.specs.Prelude.{◌≡◌};
 
 use hoare_law::data::MonitorData;
@@ -13,7 +14,7 @@ use std::thread;
 use std::time::Duration;
 use test_support::running::count_waiting;
 
-/// The rules of what is tested, as it should be after the lines that were recorded.
+/// A model of what is tested: its state after the lines that were recorded, and which line may be next.
 pub trait Rules<L> {
     /// Returns true if `line` may be next, and records it.
     fn allows(&mut self, line: L) -> bool;
@@ -46,7 +47,7 @@ impl<L> Log<L> {
 }
 
 impl<L: Copy + Debug> Log<L> {
-    /// Writes a line. Fails the test if there is no room.
+    /// Writes a line. If the room of the log is used up, the log grows. Fails the test if out of memory.
     pub fn write<R: Wait + Abort>(&self, rt: &R, line: L) {
         self.lines.lock(rt).push(line).expect(rt, "memory");
     }
@@ -62,8 +63,8 @@ impl<L: Copy + Debug> Log<L> {
     }
 }
 
-/// Enters and leaves until another process waits, at most twenty times. Sleeps 50 microseconds after each visit, which
-/// gives the others time.
+/// Enters and leaves until it finds that another process waits, at most twenty times. Sleeps 50 microseconds after each
+/// visit, so that the others have time to act.
 pub fn linger<D: MonitorData, R: Wait + Clock, M: Monitor<D>>(rt: &R, m: &M, out: M::Out) -> M::Out
     requires { M.is_of m.now out }
     ensures of { M.is_of m.now result }

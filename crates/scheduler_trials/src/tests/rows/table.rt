@@ -1,5 +1,5 @@
-//! The philosophers' table of the cookbook: of two philosophers that wait and can eat, the one with the first seat
-//! resumes.
+//! The philosophers' table of the cookbook: of two philosophers that wait and can eat, the one whose seat has the
+//! lesser number resumes first.
 ghost use Rattle.std.specs.Prelude.{◌≡◌, ◌<◌};
 
 use crate::tests::compared::{answered, expect_same};
@@ -13,8 +13,8 @@ use std::rt::Clock;
 use std::sync::Wait;
 use test_support::running::count_waiting;
 
-// Eats at the seat, and gets up. Returns how many waited meanwhile. Place 0 eats at once, and gets up when two others
-// wait.
+// Eats at the seat, and gets up; place 0 gets up only when two others wait. Returns how many wait just before it gets
+// up.
 fn eats<R: Wait + Abort, M: Monitor<Table>>(
     rt: &R,
     m: &M,
@@ -64,7 +64,7 @@ impl Row<Table> for Dinner<'_> {
     }
 }
 
-// Place 2 resumes first, though it came later: it has the first seat. Place 1 waits meanwhile.
+// Place 2 resumes before place 1, though it came later: its seat has the lesser number. Place 1 still waits then.
 #[test]
 fn who_has_the_first_seat_goes_on_first(host: HostRuntime) {
     let (rt, alloc) = (&host, host.alloc());

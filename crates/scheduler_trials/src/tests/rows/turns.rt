@@ -1,5 +1,5 @@
-//! The order in which processes begin to wait. Each waits outside for its turn, and one process gives the turns: the
-//! next when the processes before it wait.
+//! The order in which processes act. Each awaits its turn outside, and another process gives it: `line_up` gives each
+//! turn when the processes before it wait.
 ghost use Rattle.std.specs.Prelude.{◌≡◌};
 
 use hoare_law::data::MonitorData;
@@ -32,7 +32,7 @@ impl Turns {
         self.now.store(turn, Ordering::SeqCst);
     }
 
-    /// Takes all turns back. Each must have been awaited.
+    /// Takes all turns back. No place may still await a turn that was given.
     pub fn start_again(&self) {
         self.give(0);
     }
@@ -49,8 +49,8 @@ impl Turns {
     }
 }
 
-/// Enters and leaves until all `others` wait or have `finished`. Returns true if any waits. Fails the test after
-/// `VISITS` visits.
+/// Enters and leaves until the number of processes that wait and `finished` add up to `others`. Returns true if any
+/// waits. Fails the test after `VISITS` visits.
 pub fn await_others<D: MonitorData, R: Wait + Abort, M: Monitor<D>>(
     rt: &R,
     m: &M,
@@ -76,7 +76,7 @@ pub fn await_others<D: MonitorData, R: Wait + Abort, M: Monitor<D>>(
     panic!(rt; "the others don't wait")
 }
 
-/// Enters and leaves until `waiting` processes wait. Fails the test after `VISITS` visits.
+/// Enters and leaves until `waiting` processes wait, on all conditions together. Fails the test after `VISITS` visits.
 pub fn watch<D: MonitorData, R: Wait + Abort, M: Monitor<D>>(
     rt: &R,
     m: &M,

@@ -8,7 +8,7 @@ use Rattle.cookbook.proofs.Meetings.{found_empty, MeetingRests-offered, MeetingR
 use Rattle.cookbook.proofs.Meetings.{MeetingReady-answered, nobody_else, Exits-resumed}
 use Rattle.cookbook.proofs.rendezvous.Rendezvous.meet.Goals as goal
 
--- the partner waits, and resumes with the value left for it
+-- the partner, which waits, may resume with the value left for it
 pub signal_leave-out-requires-clause-ready : goal.signal_leave-out-requires-clause-ready
 signal_leave-out-requires-clause-ready g c =
     let one =

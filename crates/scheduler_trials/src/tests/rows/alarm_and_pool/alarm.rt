@@ -41,7 +41,7 @@ fn ticks_twice<R: Wait + Abort, M: Monitor<Alarm>>(rt: &R, m: &M, out: M::Out) -
     (out, second.expect(rt, "there is a next time"))
 }
 
-/// Sleeps for this many ticks, to past the last time. Fails the test unless that is refused.
+/// Attempts to sleep for this many ticks, until after the last time. Fails the test unless that is refused.
 pub fn is_too_far<R: Wait + Abort, M: Monitor<Alarm>>(
     rt: &R,
     m: &M,
@@ -57,7 +57,7 @@ pub fn is_too_far<R: Wait + Abort, M: Monitor<Alarm>>(
     out
 }
 
-/// Ticks at the last time. Fails the test unless that is refused.
+/// Attempts to tick at the last time. Fails the test unless that is refused.
 pub fn is_full<R: Wait + Abort, M: Monitor<Alarm>>(rt: &R, m: &M, out: M::Out) -> M::Out
     requires { M.is_of m.now out }
     ensures of { M.is_of m.now result }
@@ -68,7 +68,7 @@ pub fn is_full<R: Wait + Abort, M: Monitor<Alarm>>(rt: &R, m: &M, out: M::Out) -
     out
 }
 
-/// At the last time no setting past it is possible, and no tick, and a sleeper that sets the last time continues at
+/// Is at the last time: a later setting and a tick must be refused, and a sleeper that sets the last time continues at
 /// once. Returns the time that the sleeper found.
 fn ends_the_clock<R: Wait + Abort, M: Monitor<Alarm>>(rt: &R, m: &M, out: M::Out) -> (M::Out, u64)
     requires { M.is_of m.now out }
@@ -80,7 +80,7 @@ fn ends_the_clock<R: Wait + Abort, M: Monitor<Alarm>>(rt: &R, m: &M, out: M::Out
     sleeps(rt, m, out, 0)
 }
 
-// Places 0 to 2 sleep for 2, 2 and 1 ticks, and place 3 ticks.
+// Places 0 and 1 sleep for 2 ticks, and place 2 for 1. Place 3 ticks twice when all three sleep.
 fn sleeps_or_ticks<R: Wait + Abort, M: Monitor<Alarm>>(
     rt: &R,
     m: &M,

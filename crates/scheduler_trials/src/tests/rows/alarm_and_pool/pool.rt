@@ -1,4 +1,5 @@
-//! The pool: the free buffer with the least number goes to the stream that holds the fewest.
+//! The pool: a free buffer goes to that of the waiting streams which held the fewest buffers when its wait began, and
+//! of several free buffers the one with the least number is taken.
 ghost use Rattle.std.specs.Prelude.{◌≡◌};
 ghost use Rattle.hoare_law.specs.Priorities.{nobody};
 ghost use Rattle.timed_schedulers.specs.Pools.{PoolRests};
@@ -16,14 +17,14 @@ use std::rt::Clock;
 use std::sync::Wait;
 use timed_schedulers::pool::{GiveRefused, NoStream, Pool, PoolRefused};
 
-/// Creates a pool of this many buffers, for this many streams. Fails the test if out of memory.
+/// Creates a pool of this many buffers, for this many streams. Fails the test if that is refused.
 pub fn with_buffers<R: Abort>(rt: &R, alloc: Global, buffers: u32, streams: u32) -> Pool
     ensures { PoolRests result (nobody 0) }
 {
     Pool::make(alloc, buffers, streams).expect(rt, "there is memory for a pool of this size")
 }
 
-/// Takes a buffer for the stream. Returns its number.
+/// Takes a buffer for the stream. Returns the number of the buffer. Fails the test if that is refused.
 pub fn takes<R: Wait + Abort, M: Monitor<Pool>>(
     rt: &R,
     m: &M,
@@ -56,7 +57,8 @@ pub fn gives<R: Wait + Abort, M: Monitor<Pool>>(
     out
 }
 
-/// Attempts to take a buffer for a number that isn't a stream's. Fails the test unless that is refused.
+/// Attempts to take a buffer for `stream`. Fails the test unless that is refused, at once or after a wait, since the
+/// pool has no stream of this number.
 pub fn is_no_stream<R: Wait + Abort, M: Monitor<Pool>>(
     rt: &R,
     m: &M,
@@ -72,8 +74,8 @@ pub fn is_no_stream<R: Wait + Abort, M: Monitor<Pool>>(
     out
 }
 
-/// Takes two buffers for stream 0 and one for stream 1, lets the others wait, and gives two back. Then it is refused in
-/// each way.
+/// Takes two buffers for stream 0 and one for stream 1, lets the others wait, and gives one back for each of the two
+/// streams. Then attempts to give and to take are refused, for each reason that there is.
 fn lends<R: Wait + Abort, M: Monitor<Pool>>(rt: &R, m: &M, out: M::Out, turns: &Turns) -> M::Out
     requires { M.is_of m.now out }
     ensures of { M.is_of m.now result }
@@ -94,7 +96,7 @@ fn lends<R: Wait + Abort, M: Monitor<Pool>>(rt: &R, m: &M, out: M::Out, turns: &
     out
 }
 
-/// Takes a buffer for the stream at this turn. Returns its number.
+/// Takes a buffer for the stream at this turn. Returns the number of the buffer.
 fn borrows<R: Wait + Abort + Clock, M: Monitor<Pool>>(
     rt: &R,
     m: &M,
@@ -112,8 +114,8 @@ fn borrows<R: Wait + Abort + Clock, M: Monitor<Pool>>(
     (out, u64::from(buffer))
 }
 
-/// Takes all buffers of the largest pool, in order, for the last stream, and gives the last back. Numbers past the last
-/// one are refused.
+/// Takes all buffers of the largest pool, in order, for the last stream; gives the last buffer back, and takes it for
+/// stream 0. In between, numbers past the last are refused, and so is a buffer that the stream doesn't hold.
 pub fn takes_all<R: Wait + Abort, M: Monitor<Pool>>(rt: &R, m: &M, out: M::Out) -> M::Out
     requires { M.is_of m.now out }
     ensures of { M.is_of m.now result }

@@ -5,7 +5,7 @@ use Rattle.plain_schedulers.proofs.buffer.mesa.MesaBuffer.append.Given.{Over}
 use Rattle.plain_schedulers.proofs.buffer.mesa.MesaBuffer.append.Goals as goal
 use Rattle.plain_schedulers.proofs.buffer.mesa.MesaBuffer.append.Goals.{After-state_mut, then-is_full, else-is_full}
 
--- the process entered and, after a wait each time it found no room, finds room
+-- the process entered, waited each time it found no room, and finds room
 came : (g : Over) (c : After-state_mut g) → GotInsideFree g.M.Monitor c.args.m.now c.args.out 1 c.if-is_full.inside
 came g c = elim c.if-is_full.branch [
   | then-is_full w ↦

@@ -6,7 +6,7 @@ use Rattle.plain_schedulers.proofs.buffer.mesa.MesaBuffer.remove.Given.{Over}
 use Rattle.plain_schedulers.proofs.buffer.mesa.MesaBuffer.remove.Goals as goal
 use Rattle.plain_schedulers.proofs.buffer.mesa.MesaBuffer.remove.Goals.{After-state_mut, then-is_empty, else-is_empty}
 
--- the process entered and, after a wait each time it found no item, finds an item
+-- the process entered, waited each time it found no item, and finds an item
 came : (g : Over) (c : After-state_mut g) → GotInsideFree g.M.Monitor c.args.m.now c.args.out 0 c.if-is_empty.inside
 came g c = elim c.if-is_empty.branch [
   | then-is_empty w ↦

@@ -72,8 +72,8 @@ impl<D: MonitorData> RawBatonDoor<D> {
     }
 }
 
-/// Returns true if a thread that frees the monitor by `how` is to call `help_others`: it was handed the monitor,
-/// is about to wait, or `since_handed` is a multiple of `VISITS_IN_A_ROW`.
+/// Returns true if a thread that frees the monitor is to call `help_others`: it was handed the monitor, is about to
+/// wait (which `how` says), or `since_handed` is a multiple of `VISITS_IN_A_ROW`.
 #[inline]
 pub(crate) fn is_to_help(since_handed: u32, how: Release) -> bool {
     since_handed % VISITS_IN_A_ROW == 0 || is_wait(how)
@@ -89,7 +89,7 @@ pub(crate) fn handed(leaves: bool) -> u32 {
     }
 }
 
-/// Returns true if `how` waits on a condition.
+/// Returns true if a place that releases the monitor in this way waits on a condition afterwards.
 #[inline]
 pub(crate) fn is_wait(how: Release) -> bool {
     match how {
@@ -98,7 +98,7 @@ pub(crate) fn is_wait(how: Release) -> bool {
     }
 }
 
-/// Returns true if the place is outside after `how`.
+/// Returns true if a place that releases the monitor in this way is outside afterwards.
 #[inline]
 pub(crate) fn is_leaving(how: Release) -> bool {
     match how {

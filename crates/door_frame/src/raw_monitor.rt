@@ -73,8 +73,8 @@ pub trait RawMonitor<D: MonitorData> {
             seat.old.me guarded seat.new.me) }
         ensures same { IfNone result (seat.new.me ≡ seat.old.me) };
 
-    /// Releases the monitor by the event of `how`: puts the guarded box back, and then writes that `next` resumes. A
-    /// door that wakes its places then wakes that place, and the result shows it.
+    /// Releases the monitor as `how` says: puts the guarded box back, and then writes that `next` resumes. A door that
+    /// wakes its places then wakes that place, and the result shows it.
     fn release(
         &self,
         seat: &mut DoorSeat<D>,

@@ -21,8 +21,7 @@ use wait_book::steps::Next;
 
 impl<D: MonitorData> RawTicketDoor<D> {
     /// Puts the guarded box back and releases the monitor, by the event that `J` picks: to the next ticket if `next` is
-    /// `Free`, else to the place that resumes. The result shows which place was woken, if any. `how` is there
-    /// only for the pick.
+    /// `Free`, else to the place that resumes. The result shows which place was woken, if any. Only the pick uses `how`.
     #[inline(always)] // a plain leave is short if the compiler sees that no place resumes
     pub(crate) fn give<J: PickedEvent<D>>(
         &self,

@@ -35,13 +35,16 @@ store-requires g c =
 -- the bell is rung before the place is woken
 
 pub wake-requires : goal.wake-requires
-wake-requires g c = let e = c.requires.event in (
-  c.args.place,
-  _,
-  c.store.ensures.2 c.args.place e.0 c.args.guarded
-      (c.put_guarded.ensures.laid ∙ laid_down c.args.guarded refl e.1),
-  e.2.given_up,
-)
+wake-requires g c =
+    let e = c.requires.event in record {
+      given_up = (
+        c.args.place,
+        _,
+        c.store.ensures.2 c.args.place e.0 c.args.guarded
+            (c.put_guarded.ensures.laid ∙ laid_down c.args.guarded refl e.1),
+        e.2.given_up,
+      );
+    }
 
 pub returns-clause-away : goal.returns-clause-away
 returns-clause-away g c = λ f is.

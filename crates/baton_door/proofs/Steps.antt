@@ -136,8 +136,8 @@ module _ {D : Type 0} where
               tokens' = tokens;
               token_now = no_token;
               others = λ j ne. refl;
-              tells = subst (λ (w : ℕ). WordsFit h tokens (set ws 0 w)) (sym (taken_at-hit expected (get_or ws 0 0)
-                  hit))
+              words_fit =
+                  subst (λ (w : ℕ). WordsFit h tokens (set ws 0 w)) (sym (taken_at-hit expected (get_or ws 0 0) hit))
                   (rewritten log h tokens ws 1 (ap word_of e.1.inside) t);
             }
 

@@ -50,9 +50,9 @@ impl<D, K: DoorKey<D>> Words<D, K> for BatonWords {
 
     ghost kinds = { λ k. K.kinds k };
 
-    ghost starts = { λ k. Initial };
+    ghost initial = { λ k. Initial };
 
-    ghost tells = { λ k. WordsFit };
+    ghost words_fit = { λ k. WordsFit };
 }
 
 /// The table of a door: one word in use, the state word, and one slot.

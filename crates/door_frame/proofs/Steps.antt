@@ -232,7 +232,7 @@ module _ {D : Type 0} (Initial : Bool → List ℕ → Type 0) (WordsFit : Histo
       × Lies (with_event r.log e) x)
       → ((j : ℕ) → turn (with_event r.log e).events ≡ Held j → get_elem? homes' 0 ≡ some none)
       → R n record { words = words'; homes = homes'; views = set s.views id (sole k (with_event r.log e) o') }
-  adds n s r id k f o o' tokens' e words' homes' at mine may owes deep now others tells home out =
+  adds n s r id k f o o' tokens' e words' homes' at mine may owes deep now others words_fit home out =
       let fit = (r.fronts id (sole k f o) at).0 in let h : History D = with_event r.log e in
       let kept = sizes_kept (sizes_at kinds n) r.log e r.sized in record {
         log = h;
@@ -246,7 +246,7 @@ module _ {D : Type 0} (Initial : Bool → List ℕ → Type 0) (WordsFit : Histo
             (others t.place ne) q);
         apart = apart_sole n s r id k h o';
         stands = Stands-push e r.stands may owes;
-        tells = tells;
+        words_fit = words_fit;
         home = home;
         out = out;
       }
@@ -261,7 +261,7 @@ module _ {D : Type 0} (Initial : Bool → List ℕ → Type 0) (WordsFit : Histo
       → Allows (K n) slots id (sole k f o, c) i g (λ r m'. (o' : Option Token) × (m' ≡ (sole k f o', c)) × Then o' r)
   draws_ok n slots id k i f o c g Then step_ s kept wide at small =
       let r = running n s kept id (knows k f o ∷ []) at in let fit = (r.fronts id (sole k f o) at).0 in
-      let d = step_ r.log r.tokens s.words fit.below fit.own_are fit.token_is r.tells in (
+      let d = step_ r.log r.tokens s.words fit.below fit.own_are fit.token_is r.words_fit in (
         sole k f d.0,
         keeps,
         tt,
@@ -282,7 +282,7 @@ module _ {D : Type 0} (Initial : Bool → List ℕ → Type 0) (WordsFit : Histo
               (λ j t ne q. retokened n r.log r.owner r.tokens d.1 j t (d.3 t.place ne) q);
           apart = apart_sole n s r id k f d.0;
           stands = r.stands;
-          tells = d.4;
+          words_fit = d.4;
           home = r.home;
           out = r.out;
         }),
@@ -306,7 +306,7 @@ module _ {D : Type 0} (Initial : Bool → List ℕ → Type 0) (WordsFit : Histo
     pub tokens' : Tokens
     pub token_now : tokens' k ≡ p
     pub others : (j : ℕ) → j ≢ k → tokens' j ≡ tokens j
-    pub tells : WordsFit (with_event log e) tokens' (set ws i (g (get_or ws i 0)))
+    pub words_fit : WordsFit (with_event log e) tokens' (set ws i (g (get_or ws i 0)))
 
   -- the place k, which knew f, enters if the word is a hit, and takes the slot
   pub comes_ok : (n slots id k i : ℕ) (f : History D) (o p : Option Token) (event : D → Event D) (g : ℕ → ℕ)
@@ -324,7 +324,7 @@ module _ {D : Type 0} (Initial : Bool → List ℕ → Type 0) (WordsFit : Histo
       let v : SeatView D = sole k f o in
       let deep = r.one_slot in let fit = (r.fronts id v at).0 in dite (test x)
       (λ hit. let b0 = brings r.log r.tokens s.words r.stands (ap (λ (m : Sizes). m.places) r.sized) fit.below
-      fit.own_are fit.token_is r.tells hit in let home = r.home b0.given_up in let l : Guarded D = home.0 in
+      fit.own_are fit.token_is r.words_fit hit in let home = r.home b0.given_up in let l : Guarded D = home.0 in
       let e : Event D = event l.state in let h : History D = with_event r.log e in let w : SeatView D = sole k h p in
       let b : BringsIn k i p g Also r.log r.tokens s.words e =
       subst (λ (d : D). BringsIn k i p g Also r.log r.tokens s.words (event d)) (sym home.2.latest) b0 in
@@ -334,7 +334,7 @@ module _ {D : Type 0} (Initial : Bool → List ℕ → Type 0) (WordsFit : Histo
         home.1,
         runs
             (adds n s r id k f o p b.tokens' e (set s.words i (g x)) (set s.homes 0 none) at enters.mine enters.allowed
-            enters.owes (length-set s.homes 0 none ∙ deep) b.token_now b.others b.tells
+            enters.owes (length-set s.homes 0 none ∙ deep) b.token_now b.others b.words_fit
             (not_given_up l h enters.inside) (λ j held. set_here s.homes 0 none (omega (arith, deep)))),
         (
           (λ ne. absurd (ne hit)),
@@ -357,7 +357,7 @@ module _ {D : Type 0} (Initial : Bool → List ℕ → Type 0) (WordsFit : Histo
         keeps,
         tt,
         subst (λ (y : ℕ). K n (stepped s i y id [] v keeps))
-            (sym (missed r.log r.tokens s.words fit.below r.tells miss)) (unmoved n s i id v [] at kept),
+            (sym (missed r.log r.tokens s.words fit.below r.words_fit miss)) (unmoved n s i id v [] at kept),
         ((λ _. refl), λ hit. absurd (miss hit)),
       ))
     where
@@ -377,7 +377,7 @@ module _ {D : Type 0} (Initial : Bool → List ℕ → Type 0) (WordsFit : Histo
       → WordsFit (with_event f (event x.state)) tokens (set ws i (g (get_or ws i 0))))
       → Allows (K n) slots id (alone k f, (0, Some x) ∷ []) i g
       (λ r m'. gives_as event st (alone k f, (0, Some x) ∷ []) r m')
-  gives_ok n slots id k i g f x next event st p tells s kept wide at small =
+  gives_ok n slots id k i g f x next event st p words_fit s kept wide at small =
       let r = running n s kept id (knows k f None ∷ []) at in
       let deep = r.one_slot in let fit = (r.fronts id (alone k f) at).0 in let e : Event D = event x.state in
       let same : r.log ≡ f = still_held k f r.log r.stands.legal p.inside fit.begins fit.own_are in
@@ -385,9 +385,9 @@ module _ {D : Type 0} (Initial : Bool → List ℕ → Type 0) (WordsFit : Histo
       let ws' : List ℕ = set s.words i (g (get_or s.words i 0)) in
       let told : WordsFit (with_event r.log e) r.tokens ws' =
       subst (λ (h : History D). WordsFit (with_event h e) r.tokens ws') (sym same)
-      (tells r.tokens s.words (ap (λ (h : History D). h.sizes.places) (sym same)
+      (words_fit r.tokens s.words (ap (λ (h : History D). h.sizes.places) (sym same)
       ∙ ap (λ (m : Sizes). m.places) r.sized) fit.below
-      (subst (λ (h : History D). WordsFit h r.tokens s.words) same r.tells)) in
+      (subst (λ (h : History D). WordsFit h r.tokens s.words) same r.words_fit)) in
       let lies : Lies (with_event r.log e) x =
       subst (λ (h : History D). Lies (with_event h e) x) (sym same) (lies_of f e x p.same_data p.book) in
       let gone : IsGivenUp (turn (with_event r.log e).events) =
@@ -412,7 +412,7 @@ module _ {D : Type 0} (Initial : Bool → List ℕ → Type 0) (WordsFit : Histo
       → Notes rest ready (event f) k f
       → ((tokens : Tokens) (ws : List ℕ) → WordsFit f tokens ws → WordsFit (with_event f (event f)) tokens ws)
       → Allows (K n) slots id (alone k f, (0, None) ∷ []) i (λ r. r) (notes_as event st (alone k f, (0, None) ∷ []))
-  notes_ok n slots id k i f event st p tells s kept wide at small =
+  notes_ok n slots id k i f event st p words_fit s kept wide at small =
       let r = running n s kept id (knows k f None ∷ []) at in
       let fit = (r.fronts id (alone k f) at).0 in
       let e : Event D = event f in
@@ -423,7 +423,7 @@ module _ {D : Type 0} (Initial : Bool → List ℕ → Type 0) (WordsFit : Histo
       subst (λ (h : History D). turn (with_event h e).events ≡ Held k) (sym same) p.stays in
       let told : WordsFit (with_event r.log e) r.tokens s.words =
       subst (λ (h : History D). WordsFit (with_event h e) r.tokens s.words) (sym same)
-      (tells r.tokens s.words (subst (λ (h : History D). WordsFit h r.tokens s.words) same r.tells)) in
+      (words_fit r.tokens s.words (subst (λ (h : History D). WordsFit h r.tokens s.words) same r.words_fit)) in
       let now : R n record { words = s.words; homes = s.homes; views = set s.views id w } =
       adds n s r id k f None None r.tokens e s.words s.homes at p.mine
       (subst (λ (h : History D). Allowed h e) (sym same) p.allowed)
@@ -443,9 +443,9 @@ module _ {D : Type 0} (Initial : Bool → List ℕ → Type 0) (WordsFit : Histo
       → m ≡ (alone k f, (0, None) ∷ []) → Notes rest ready (event f) k f
       → ((tokens : Tokens) (ws : List ℕ) → WordsFit f tokens ws → WordsFit (with_event f (event f)) tokens ws)
       → Allows (K n) slots id m i (λ r. r) (notes_as event st m)
-  notes_at n slots id k i f event st m is p tells =
+  notes_at n slots id k i f event st m is p words_fit =
       subst (λ (q : SeatState D). Allows (K n) slots id q i (λ r. r) (notes_as event st q)) (sym is)
-      (notes_ok n slots id k i f event st p tells)
+      (notes_ok n slots id k i f event st p words_fit)
 
   pub begins_ok : (n slots id i : ℕ) (g : ℕ → ℕ) (st : Step (Option (Guarded D)))
       → ((ws : List ℕ) → Initial false ws → Initial true (set ws i (g (get_or ws i 0))))
@@ -488,7 +488,7 @@ module _ {D : Type 0} (Initial : Bool → List ℕ → Type 0) (WordsFit : Histo
         views = Places (all_know 0 n (opened (sizes_at kinds n) x.state)) ∷ [];
       })
   unfolding latest_data
-  opens_running n x ws stands book tells = record {
+  opens_running n x ws stands book words_fit = record {
     log = opened (sizes_at kinds n) x.state;
     owner = λ _. 0;
     tokens = λ _. None;
@@ -505,7 +505,7 @@ module _ {D : Type 0} (Initial : Bool → List ℕ → Type 0) (WordsFit : Histo
     apart = λ j v got. subst ApartOf (only (Places (all_know 0 n (opened (sizes_at kinds n) x.state))) v j got)
         (all_know_apart 0 n (opened (sizes_at kinds n) x.state));
     stands = stands;
-    tells = tells;
+    words_fit = words_fit;
     home = λ _. (x, refl, record { latest = refl; book = book });
     out = λ k held. let no : Free ≡ Held k = sym (turn-opened (sizes_at kinds n) x.state) ∙ held in absurd (cc);
   }
@@ -516,11 +516,11 @@ module _ {D : Type 0} (Initial : Bool → List ℕ → Type 0) (WordsFit : Histo
       (set ws i (g (get_or ws i 0))))
       → Allows (K n) slots id (Opening n, (0, Some x) ∷ []) i g
       (λ r m'. opens kinds st (Opening n, (0, Some x) ∷ []) r m')
-  opens_ok n slots id i g x st stands book tells s (raw b h e) wide at small =
+  opens_ok n slots id i g x st stands book words_fit s (raw b h e) wide at small =
       let other : Unopened n ≡ Opening n = only (Unopened n)
       (Opening n) id (ap (λ (y : List (SeatView D)). get_elem? y id) (sym e) ∙ at) in absurd (cc)
-  opens_ok n slots id i g x st stands book tells s (runs r) wide at small = absurd (r.fronts id (Opening n) at)
-  opens_ok n slots id i g x st stands book tells s (lent b h e) wide at small =
+  opens_ok n slots id i g x st stands book words_fit s (runs r) wide at small = absurd (r.fronts id (Opening n) at)
+  opens_ok n slots id i g x st stands book words_fit s (lent b h e) wide at small =
       let at' : get_elem? (Opening n ∷ []) id ≡ some (Opening n) =
       ap (λ (y : List (SeatView D)). get_elem? y id) (sym e) ∙ at in
       let o : History D = opened (sizes_at kinds n) x.state in
@@ -534,7 +534,7 @@ module _ {D : Type 0} (Initial : Bool → List ℕ → Type 0) (WordsFit : Histo
         w,
         gives,
         tt,
-        subst (K n) (sym now) (runs (opens_running n x ws' stands book (tells s.words b))),
+        subst (K n) (sym now) (runs (opens_running n x ws' stands book (words_fit s.words b))),
         λ m y is. told m y is,
       )
     where
@@ -566,9 +566,9 @@ module _ {D : Type 0} (Initial : Bool → List ℕ → Type 0) (WordsFit : Histo
       → ((ws : List ℕ) → Initial true ws → WordsFit (opened (sizes_at kinds n) x.state) (λ _. None)
       (set ws i (g (get_or ws i 0))))
       → Allows (K n) slots id m i g (opens kinds st m)
-  opens_at n slots id i g x st m is at_rest book tells =
+  opens_at n slots id i g x st m is at_rest book words_fit =
       subst (λ (p : SeatState D). Allows (K n) slots id p i g (opens kinds st p)) (sym is)
-      (opens_ok n slots id i g x st (Stands-opened rest ready (sizes_at kinds n) x.state at_rest) book tells)
+      (opens_ok n slots id i g x st (Stands-opened rest ready (sizes_at kinds n) x.state at_rest) book words_fit)
 
   -- what a seat knows agrees with the log, and no place is in it twice
   abbrev Fits : ℕ → History D → (ℕ → ℕ) → Tokens → ℕ → SeatView D → Type 0
@@ -587,7 +587,7 @@ module _ {D : Type 0} (Initial : Bool → List ℕ → Type 0) (WordsFit : Histo
     fronts = λ j v got. (fit j v got).0;
     apart = λ j v got. (fit j v got).1;
     stands = r.stands;
-    tells = r.tells;
+    words_fit = r.words_fit;
     home = r.home;
     out = r.out;
   }

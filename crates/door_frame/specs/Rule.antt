@@ -61,7 +61,7 @@ module _ {D : Type 0} where
       -- 2. the log is legal and lawful
       pub stands : Stands rest ready log
       -- 3. the words fit the log and the tokens
-      pub tells : WordsFit log tokens s.words
+      pub words_fit : WordsFit log tokens s.words
       -- 4. if nobody is inside, the slot is at home, with what the log left
       pub home : IsGivenUp (turn log.events)
           → (x : Guarded D) × (get_elem? s.homes 0 ≡ some (some (Some x))) × Lies log x

@@ -98,7 +98,7 @@ pub fn vacant<D: MonitorData, K, W: Words<D, K>>(
     words: &[u64],
     key: &K,
 ) -> Result<(DoorTable<D, K, W>, DoorSeat<D>, GuardedBox<D>), D>
-    requires { W.starts key.now false words.now }
+    requires { W.initial key.now false words.now }
     ensures table { IfOk result (λ r. (r.0.shared.table_id.words ≡ length words.now)
         × (r.0.shared.table_id.slots ≡ 1) × (r.0.shared.key ≡ key.now)) }
     ensures seat { IfOk result (λ r. (r.1.table_id ≡ r.0.shared.table_id)

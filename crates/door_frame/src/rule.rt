@@ -23,10 +23,10 @@ pub trait Words<D, K> {
     ghost kinds: { K → Kinds };
 
     /// Holds of the words before the door opens. The flag is true if the first seat has the slot by then.
-    ghost starts: { K → Bool → List ℕ → Type 0 };
+    ghost initial: { K → Bool → List ℕ → Type 0 };
 
     /// Holds if the words of an open door fit the log, and which place has which token.
-    ghost tells: { K → History D → Tokens → List ℕ → Type 0 };
+    ghost words_fit: { K → History D → Tokens → List ℕ → Type 0 };
 }
 
 /// The rule over the words, the slot and what all places know.
@@ -36,7 +36,7 @@ pub struct Rule<W> {
 
 impl<D: MonitorData, K, W: Words<D, K>> TableRule<Option<GuardedBox<D>>, SeatView<D>, K>
     for Rule<W> {
-    ghost holds = { λ key. TableInvariant (W.starts key) (W.tells key)
+    ghost holds = { λ key. TableInvariant (W.initial key) (W.words_fit key)
         D.rest D.ready (W.kinds key) (W.places key) };
 
     ghost first = { λ key. unopened (W.places key) };

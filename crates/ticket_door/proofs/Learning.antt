@@ -51,7 +51,7 @@ module _ {D : Type 0} (Initial : Bool → List ℕ → Type 0) (WordsFit : Histo
   draws_and_learns n slots id k i f o g Then step_ s kept wide at small =
       let r = running Initial WordsFit rest ready kinds n s kept id (knows k f o ∷ []) at in
       let fit = (r.fronts id (sole k f o) at).0 in
-      let d = step_ r.log r.tokens s.words fit.below fit.own_are fit.token_is r.tells in
+      let d = step_ r.log r.tokens s.words fit.below fit.own_are fit.token_is r.words_fit in
       let w : SeatView D = sole k r.log d.0 in (
         w,
         keeps,
@@ -82,7 +82,7 @@ module _ {D : Type 0} (Initial : Bool → List ℕ → Type 0) (WordsFit : Histo
               (λ (t : (j ≢ id) × (get_elem? s.views j ≡ some v)). r.apart j v t.1)
               (at_set s.views id j w v got);
           stands = r.stands;
-          tells = d.4;
+          words_fit = d.4;
           home = r.home;
           out = r.out;
         }),

@@ -100,7 +100,7 @@ module _ {D : Type 0} (first n : ℕ) where
           tokens' = tokens;
           token_now = has;
           others = λ j ne. refl;
-          tells =
+          words_fit =
               rewritten log h tokens ws k 0 small r.busy (ap taken e.inside)
               (admissions-other log (due k f (latest_data log))
               (no_admit log (due k f (latest_data log)) e.allowed (due_busy k _ is))) (ap

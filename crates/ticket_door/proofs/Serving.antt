@@ -289,7 +289,7 @@ module _ {D : Type 0} (first n : ℕ) where
           tokens' = given_to tokens k None;
           token_now = given_here tokens k None;
           others = λ j ne. given_else tokens k None j ne;
-          tells = looked log tokens ws k firsts.0 (latest_data log) t is_open firsts.1 free e.inside;
+          words_fit = looked log tokens ws k firsts.0 (latest_data log) t is_open firsts.1 free e.inside;
         }
 
     pub polls_ticket_ok : (slots id k x : ℕ) (f : History D) (st : Step (Option (Guarded D))) → n ≤ 64

@@ -291,7 +291,7 @@ module _ {D : Type 0} (first n : ℕ) where
           tokens' = tokens;
           token_now = refl;
           others = λ j ne. refl;
-          tells =
+          words_fit =
               subst (λ (u : ℕ). WordsFit first n (with_event log (Admit k (latest_data log))) tokens (set ws next_at u))
               (sym (changed-hit w ((w + 1) % 2 ^ 64) (get_or ws next_at 0) hit))
               (tried log tokens ws k v w (latest_data log) t by kept is hit free e.inside);

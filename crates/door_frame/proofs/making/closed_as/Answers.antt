@@ -43,7 +43,7 @@ join_seat-requires g c =
       ap (λ (b : PlaceId). b.table) (c.into_parts-other.ensures.0 ∙ mine.of),
       ap (λ (m : SeatState g.row.D.Denot). m.1) c.into_parts-other.ensures.2,
       search rules,
-      joins_one (W.starts q) (W.tells q) D.rest D.ready (W.kinds q) d _ _ _ _ inv.1.0 o.place o.front
+      joins_one (W.initial q) (W.words_fit q) D.rest D.ready (W.kinds q) d _ _ _ _ inv.1.0 o.place o.front
           (ap (λ (m : SeatState g.row.D.Denot). m.0) inv.1.2)
           (ap (λ (m : SeatState g.row.D.Denot). m.0) c.into_parts-other.ensures.2),
     )
@@ -78,7 +78,7 @@ ended g c =
     let inv = c.loop-out.invariant in
     let p = c.in_default-pop.ensures in
     let q = c.args.table.shared.key in
-    ends_all (g.W.Words.starts q) (g.W.Words.tells q) _ _ _ _ _ _ inv.1.0 inv.1.1
+    ends_all (g.W.Words.initial q) (g.W.Words.words_fit q) _ _ _ _ _ _ inv.1.0 inv.1.1
     (none_left _ _ _ p.items p.cases.0 p.rest) (ap (λ (m : SeatState g.row.D.Denot). m.0) inv.1.2) c.requires.of
     c.requires.places c.close_with-closed.ensures.values.2 c.take.ensures.value
 

@@ -21,12 +21,12 @@ split_seat-cut-requires g c =
     let D = g.D.MonitorData in
     let W = g.W.Words in
     let q = c.args.table.now.shared.key in
-    let K = TableInvariant (W.starts q) (W.tells q) D.rest D.ready (W.kinds q) (W.places q) in (
+    let K = TableInvariant (W.initial q) (W.words_fit q) D.rest D.ready (W.kinds q) (W.places q) in (
       search rules,
       search rules,
       subst (λ (v : SeatView g.row.D.Denot). Splits K c.loop-place.seat.id v (places_behind v) (first_place v))
           (sym (ap (λ (m : SeatState g.row.D.Denot). m.0) me))
-          (deals_ok (W.starts q) (W.tells q) D.rest D.ready (W.kinds q) _ _ c.loop-place.place
+          (deals_ok (W.initial q) (W.words_fit q) D.rest D.ready (W.kinds q) _ _ c.loop-place.place
           (c.args.places - c.loop-place.place) all.0
           (omega (arith, c.loop-place-test.true))),
     )

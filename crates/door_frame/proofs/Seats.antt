@@ -20,13 +20,13 @@ pub one_slot : {S : Type 0} (l : List (ℕ × S)) (x : ℕ × S) → l ≡ x ∷
 one_slot {S = S} l x e = e ∙ ap (λ (z : List (ℕ × S)). x ∷ rest z) (sym e)
 
 -- place ids with equal tables and the same sleeper are equal
-pub berth_as : (w : TableId) {y z : TableId} → y ≡ z → place_id y w ≡ place_id z w
-berth_as w same = ap (λ (z : TableId). place_id z w) same
+pub place_id_as : (w : TableId) {y z : TableId} → y ≡ z → place_id y w ≡ place_id z w
+place_id_as w same = ap (λ (z : TableId). place_id z w) same
 
 -- the same if what the place parks on depends on the table
-pub berth_on : {X : Type 0} (at : TableId → X → TableId) (s : X) {y z : TableId} → y ≡ z
+pub place_id_on : {X : Type 0} (at : TableId → X → TableId) (s : X) {y z : TableId} → y ≡ z
     → place_id y (at y s) ≡ place_id z (at z s)
-berth_on at s same = ap (λ (z : TableId). place_id z (at z s)) same
+place_id_on at s same = ap (λ (z : TableId). place_id z (at z s)) same
 
 module _ {D : Type 0} where
   abbrev slot_or : Option (Guarded D) → List (ℕ × Option (Guarded D)) → Option (Guarded D)

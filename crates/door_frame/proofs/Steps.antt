@@ -72,9 +72,9 @@ told_as holds slots id me i f Then Other as_ ok s kept wide at small =
 
 module _ {D : Type 0} where
   -- the contents of the first slot in hand, or d
-  abbrev lodged_or : Guarded D → List (ℕ × Option (Guarded D)) → Guarded D
-  lodged_or d ((m, Some y) ∷ ys) = y
-  lodged_or d _ = d
+  abbrev guarded_or : Guarded D → List (ℕ × Option (Guarded D)) → Guarded D
+  guarded_or d ((m, Some y) ∷ ys) = y
+  guarded_or d _ = d
 
   -- a place still agrees with the log after an event of another place
   grows : (n : ℕ) (log : History D) (owner : ℕ → ℕ) (tokens tokens' : Tokens) (j : ℕ) (e : Event D) (t : PlaceView D)
@@ -403,7 +403,7 @@ module _ {D : Type 0} (Initial : Bool → List ℕ → Type 0) (WordsFit : Histo
             fit.token_is (λ j ne. refl) told (λ _. (x, set_here s.homes 0 (some (Some x)) (omega (arith, deep)), lies))
             (λ j held. absurd (subst IsGivenUp held gone))),
         λ j g y is. let q = alone_is k j f g ((0, Some x) ∷ []) ((0, Some y) ∷ []) is in
-            let is' : x ≡ y = ap (lodged_or x) q.2 in
+            let is' : x ≡ y = ap (guarded_or x) q.2 in
             λ i. (alone (q.0 i) (with_event ((same ∙ q.1) i) (event (is' i).state)), []),
       )
 
@@ -546,8 +546,8 @@ module _ {D : Type 0} (Initial : Bool → List ℕ → Type 0) (WordsFit : Histo
           → ◌≡◌ {A = SeatState D} (Places (all_know 0 n (opened (sizes_at kinds n) x.state)), [])
           (Places (all_know 0 m (opened (sizes_at kinds m) y.state)), [])
       told m y is =
-          let a : n ≡ m = ap (λ (z : SeatState D). count z.0) is in let b_ : x ≡ y = ap (λ (z : SeatState D). lodged_or
-          x z.1) is in
+          let a : n ≡ m = ap (λ (z : SeatState D). count z.0) is in
+          let b_ : x ≡ y = ap (λ (z : SeatState D). guarded_or x z.1) is in
           λ i. (Places (all_know 0 (a i) (opened (sizes_at kinds (a i)) (b_ i).state)), [])
 
   -- the first seat takes the empty slot, by any step that takes the words from Initial false to Initial true

@@ -58,7 +58,7 @@ impl<D: MonitorData> RawTicketDoor<D> {
 
     /// Polls until `ticket` is served: the place is then admitted. Yields or parks between polls.
     #[inline(never)]
-    fn keep_looking<J: Counting, R: Wait>(
+    fn keep_polling<J: Counting, R: Wait>(
         &self,
         rt: &R,
         seat: &mut DoorSeat<D>,
@@ -104,7 +104,7 @@ impl<D: MonitorData> RawTicketDoor<D> {
         if self.is_served::<J>(seat, place, ticket) {
             return take_guarded(&self.table, seat);
         }
-        self.keep_looking::<J, R>(rt, seat, place, ticket);
+        self.keep_polling::<J, R>(rt, seat, place, ticket);
         take_guarded(&self.table, seat)
     }
 

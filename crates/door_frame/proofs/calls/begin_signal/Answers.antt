@@ -3,7 +3,7 @@ use Rattle.hoare_law.specs.Internal.WithoutData.{dataless}
 use Rattle.wait_book.proofs.WithData.{none-listed}
 use Rattle.door_frame.proofs.Releases.{gives_handing, handed_over, next_handing}
 use Rattle.door_frame.proofs.Inside.{holds_unpacked, turn_in_hand}
-use Rattle.door_frame.proofs.Seats.{berth_on}
+use Rattle.door_frame.proofs.Seats.{place_id_on}
 use Rattle.door_frame.proofs.calls.begin_signal.Goals as goal
 
 pub signal-next-requires-clause-inside : goal.signal-next-requires-clause-inside
@@ -27,7 +27,7 @@ returns g c =
     let book = c.signal-next.ensures.of (dataless c.args.inside.front) h.book in
     let is = c.of_parts.ensures _ (c.release.ensures.away _ h.me_is) in
     let o = handed_over c.args.condition _ _ _ _ h c.requires.hoare some (c.requires.ready some) book
-    c.signal-next.ensures.next (berth_on g.S.Parking.at _ c.release.ensures.table) is in
+    c.signal-next.ensures.next (place_id_on g.S.Parking.at _ c.release.ensures.table) is in
     record {
       of = o.of;
       place = o.place;

@@ -1,7 +1,7 @@
 use Rattle.hoare_law.specs.Internal.WithoutData.{dataless}
 use Rattle.door_frame.proofs.Releases.{gives_wait, waited, next_wait}
 use Rattle.door_frame.proofs.Inside.{holds_unpacked, turn_in_hand}
-use Rattle.door_frame.proofs.Seats.{berth_on}
+use Rattle.door_frame.proofs.Seats.{place_id_on}
 use Rattle.door_frame.proofs.calls.begin_wait.Goals as goal
 
 pub wait-next-requires-clause-inside : goal.wait-next-requires-clause-inside
@@ -23,7 +23,7 @@ returns g c =
     let is = c.of_parts.ensures _ (c.release.ensures.away _ h.me_is) in
     let o =
     waited c.args.condition c.args.priority _ _ h c.requires.in_range c.requires.rest
-    (berth_on g.S.Parking.at _ c.release.ensures.table) is in
+    (place_id_on g.S.Parking.at _ c.release.ensures.table) is in
     record {
       of = o.of;
       place = o.place;

@@ -6,7 +6,7 @@ use Rattle.door_frame.specs.Seats.{IsInside}
 use Rattle.door_frame.specs.Views.{front_of}
 use Rattle.door_frame.proofs.Inside.{holds, turn_in_hand, book_in_hand, listed_in_hand}
 use Rattle.door_frame.proofs.Notifications.{notes_notification, book_follows, noted}
-use Rattle.door_frame.proofs.Seats.{is_alone-seat, at_front, berth_on}
+use Rattle.door_frame.proofs.Seats.{is_alone-seat, at_front, place_id_on}
 use Rattle.door_frame.proofs.GuardedBoxes.{unpacked}
 use Rattle.door_frame.proofs.calls.call.Goals as goal
 
@@ -39,7 +39,7 @@ returns g c =
     let same = unpacked c.deref_mut.ensures.value c.guarded.view_is in
     let notes = notes_notification c.args.notification h c.requires.mesa c.requires.some in
     record {
-      noted = noted c.args.notification _ h notes (berth_on g.S.Parking.at _ c.note.ensures.table)
+      noted = noted c.args.notification _ h notes (place_id_on g.S.Parking.at _ c.note.ensures.table)
           (ap (λ (w : Guarded g.row.D.Denot). w.state) same) (c.note.ensures.stays _ c.inside.invariant.0);
       answer = subst (λ q. IsCounted c.args.notification (q (called_on c.args.notification)) c.book_calls.result)
           (listed_in_hand (ap (λ (w : Guarded g.row.D.Denot). w.book) same) c.inside.invariant c.inside.view_is)

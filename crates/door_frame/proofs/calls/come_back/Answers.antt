@@ -1,7 +1,7 @@
 use Rattle.std.proofs.Common.{◌∙◌, ◌<◌, ℕ, sym, ap, subst}
 use Rattle.door_frame.specs.Places.{PlaceId, sleeper_at}
 use Rattle.door_frame.proofs.Arrivals.{came_back}
-use Rattle.door_frame.proofs.Seats.{away_as, berth_as}
+use Rattle.door_frame.proofs.Seats.{away_as, place_id_as}
 use Rattle.door_frame.proofs.calls.come_back.Goals as goal
 
 pub claim-guarded-requires-clause-small : goal.claim-guarded-requires-clause-small
@@ -28,5 +28,5 @@ pub returns : goal.returns
 returns g c =
     let parts = c.into_parts-seat.ensures in
     let came = c.claim-guarded.ensures.came c.args.away.front (away_as parts.1 parts.2) in
-    came_back c.args.away _ _ c.requires (berth_as _ c.claim-guarded.ensures.table ∙ parts.0) parts.1 came
+    came_back c.args.away _ _ c.requires (place_id_as _ c.claim-guarded.ensures.table ∙ parts.0) parts.1 came
     (c.return_with.ensures _ came)

@@ -1,7 +1,7 @@
 use Rattle.hoare_law.specs.Internal.WithoutData.{dataless}
 use Rattle.door_frame.proofs.Releases.{gives_leave, left, next_leave}
 use Rattle.door_frame.proofs.Inside.{holds_unpacked, turn_in_hand}
-use Rattle.door_frame.proofs.Seats.{berth_on}
+use Rattle.door_frame.proofs.Seats.{place_id_on}
 use Rattle.door_frame.proofs.calls.leave_to.Goals as goal
 
 pub leave-next-requires : goal.leave-next-requires
@@ -21,7 +21,7 @@ pub returns : goal.returns
 returns g c =
     let h = holds_unpacked c.deref_mut.ensures.value c.guarded.view_is c.into_parts-seat.ensures c.requires.of in
     let is = c.of_parts.ensures _ (c.release.ensures.away _ h.me_is) in
-    let o = left _ _ h c.requires.rest (berth_on g.S.Parking.at _ c.release.ensures.table) is in
+    let o = left _ _ h c.requires.rest (place_id_on g.S.Parking.at _ c.release.ensures.table) is in
     record {
       of = o.of;
       place = o.place;

@@ -4,7 +4,7 @@ use Rattle.hoare_law.specs.Growth.{just_left}
 use Rattle.wait_book.proofs.WithData.{none-listed}
 use Rattle.door_frame.proofs.Releases.{gives_handing, passed, next_handing}
 use Rattle.door_frame.proofs.Inside.{holds_unpacked, turn_in_hand}
-use Rattle.door_frame.proofs.Seats.{berth_on}
+use Rattle.door_frame.proofs.Seats.{place_id_on}
 use Rattle.door_frame.proofs.calls.signal_leave_to.Goals as goal
 
 pub leave_to-out-requires-clause-rest : goal.leave_to-out-requires-clause-rest
@@ -38,7 +38,7 @@ returns g c =
     let book = c.pass-next.ensures.of (dataless c.args.inside.front) h.book in
     let is = c.of_parts.ensures _ (c.release.ensures.away _ h.me_is) in
     let o = passed c.args.condition _ _ _ _ h c.requires.hoare some (c.requires.ready some) book
-    c.pass-next.ensures.next (berth_on g.S.Parking.at _ c.release.ensures.table) is in
+    c.pass-next.ensures.next (place_id_on g.S.Parking.at _ c.release.ensures.table) is in
     record {
       of = o.of;
       place = o.place;

@@ -2,7 +2,7 @@ use Rattle.std.proofs.Common.{◌≡◌, ℕ, true, sym, ◌∙◌, subst}
 use Rattle.hoare_law.specs.Turns.{outside}
 use Rattle.door_frame.specs.Places.{place_out}
 use Rattle.door_frame.proofs.Arrivals.{entered}
-use Rattle.door_frame.proofs.Seats.{away_as, berth_on}
+use Rattle.door_frame.proofs.Seats.{away_as, place_id_on}
 use Rattle.door_frame.proofs.calls.try_enter.Goals as goal
 
 pub try_admit-requires-clause-outside : goal.try_admit-requires-clause-outside
@@ -23,7 +23,7 @@ returns-in-Some g c =
     let parts = c.into_parts-seat.ensures in
     let came = c.in-Some.ensures.came c.args.out.front (away_as parts.1 parts.2) in
     let e =
-    entered c.args.out _ _ c.requires (berth_on g.S.Parking.at _ c.in-Some.ensures.table ∙ parts.0) parts.1 came
+    entered c.args.out _ _ c.requires (place_id_on g.S.Parking.at _ c.in-Some.ensures.table ∙ parts.0) parts.1 came
     (c.enter_with.ensures _ came) in
     record { of = e.of; place = e.place; rest = e.rests; front = e.front; same = tt }
 
@@ -38,4 +38,4 @@ pub returns-in-None-clause-same : goal.returns-in-None-clause-same
 returns-in-None-clause-same g c =
     let parts = c.into_parts-seat.ensures in
     c.of_parts.ensures c.args.out.front (c.in-None.ensures.same ∙ away_as parts.1 parts.2)
-    ∙ (λ i. place_out ((berth_on g.S.Parking.at _ c.in-None.ensures.table ∙ parts.0) i) (parts.1 i) c.args.out.front)
+    ∙ (λ i. place_out ((place_id_on g.S.Parking.at _ c.in-None.ensures.table ∙ parts.0) i) (parts.1 i) c.args.out.front)

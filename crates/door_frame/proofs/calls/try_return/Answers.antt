@@ -1,7 +1,7 @@
 use Rattle.std.proofs.Common.{◌∙◌}
 use Rattle.door_frame.specs.Places.{place_out}
 use Rattle.door_frame.proofs.Arrivals.{came_back}
-use Rattle.door_frame.proofs.Seats.{away_as, berth_on}
+use Rattle.door_frame.proofs.Seats.{away_as, place_id_on}
 use Rattle.door_frame.proofs.calls.try_return.Goals as goal
 
 pub try_claim-requires-clause-away : goal.try_claim-requires-clause-away
@@ -20,7 +20,8 @@ returns-in-Some g c =
     let parts = c.into_parts-seat.ensures in
     let came = c.in-Some.ensures.came c.args.away.front (away_as parts.1 parts.2) in
     record {
-      back = came_back c.args.away _ _ c.requires (berth_on g.S.Parking.at _ c.in-Some.ensures.table ∙ parts.0) parts.1
+      back =
+          came_back c.args.away _ _ c.requires (place_id_on g.S.Parking.at _ c.in-Some.ensures.table ∙ parts.0) parts.1
           came
           (c.return_with.ensures _ came);
       same = tt;
@@ -37,4 +38,5 @@ pub returns-in-None-clause-same : goal.returns-in-None-clause-same
 returns-in-None-clause-same g c =
     let parts = c.into_parts-seat.ensures in
     c.of_parts.ensures c.args.away.front (c.in-None.ensures.same ∙ away_as parts.1 parts.2)
-    ∙ (λ i. place_out ((berth_on g.S.Parking.at _ c.in-None.ensures.table ∙ parts.0) i) (parts.1 i) c.args.away.front)
+    ∙ (λ i. place_out ((place_id_on g.S.Parking.at _ c.in-None.ensures.table ∙ parts.0) i) (parts.1 i)
+        c.args.away.front)

@@ -1,7 +1,7 @@
 use Rattle.std.proofs.Common.{◌≡◌, ℕ, true, sym, ◌∙◌, subst}
 use Rattle.hoare_law.specs.Turns.{outside}
 use Rattle.door_frame.proofs.Arrivals.{entered}
-use Rattle.door_frame.proofs.Seats.{away_as, berth_as, took}
+use Rattle.door_frame.proofs.Seats.{away_as, place_id_as, took}
 use Rattle.baton_door.proofs.door.RawBatonDoor.enter_later.Goals as goal
 
 pub keep_trying-requires-clause-outside : goal.keep_trying-requires-clause-outside
@@ -31,6 +31,6 @@ returns g c =
     let came = took D.rest D.ready t.1 c.take_guarded-guarded.ensures.taken c.take_guarded-guarded.ensures.empty in
     let e =
     entered c.args.out _ _ c.requires
-    (berth_as _ (c.take_guarded-guarded.ensures.table ∙ c.keep_trying.ensures.table) ∙ parts.0) parts.1 came
+    (place_id_as _ (c.take_guarded-guarded.ensures.table ∙ c.keep_trying.ensures.table) ∙ parts.0) parts.1 came
     (c.enter_with.ensures _ came) in
     record { of = e.of; place = e.place; rest = e.rests; front = e.front }

@@ -1,6 +1,6 @@
 use Rattle.std.proofs.Common.{sym, subst}
 use Rattle.door_frame.specs.Views.{front_of}
-use Rattle.door_frame.proofs.Seats.{berth_as}
+use Rattle.door_frame.proofs.Seats.{place_id_as}
 use Rattle.ticket_door.specs.Asked.{IsAsked, number_of}
 use Rattle.ticket_door.proofs.Asking.{came_in}
 use Rattle.ticket_door.proofs.door.RawTicketDoor.come_in.Goals as goal
@@ -35,6 +35,6 @@ returns g c =
     let m = c.served-guarded.ensures.came _ _ c.asked.invariant in
     let r =
     came_in D.rest D.ready (kinds_of D.CONDITIONS D.MESA) c.asked.view_is o
-    (berth_as _ c.served-guarded.ensures.table) m.0 m.1
+    (place_id_as _ c.served-guarded.ensures.table) m.0 m.1
     (c.enter_with.ensures _ m.0) in
     record { of = r.of; place = r.place; rest = r.rests; front = r.front; in_turn = r.in_turn; behind = r.behind }

@@ -6,7 +6,7 @@ use Rattle.door_frame.specs.Rule.{TableInvariant}
 use Rattle.door_frame.specs.Steps.{SeatState}
 use Rattle.door_frame.specs.Views.{knows, places_behind, first_place}
 use Rattle.door_frame.proofs.Close.{joins_one}
-use Rattle.door_frame.proofs.Seats.{berth_as}
+use Rattle.door_frame.proofs.Seats.{place_id_as}
 use Rattle.door_frame.proofs.Steps.{learns_at, splits_ok}
 use Rattle.ticket_door.specs.Asked.{TicketDoorId}
 use Rattle.ticket_door.specs.Rule.{Initial, WordsFit}
@@ -104,7 +104,7 @@ returns g c =
     let sleeper = ap (λ (x : PlaceId). x.sleeper) second in
     let p =
     out_as D.rest D.ready (kinds_of D.CONDITIONS D.MESA) d a _ _ _ l.0 c.requires.a l.1.stands l.1.fits.1.0
-    (berth_as _ (c.split_seat-cut.ensures.0 ∙ at) ∙ first) pa.1 one in
+    (place_id_as _ (c.split_seat-cut.ensures.0 ∙ at) ∙ first) pa.1 one in
     let q =
     out_as D.rest D.ready (kinds_of D.CONDITIONS D.MESA) d b _ _ _ l.0 c.requires.b l.1.stands l.1.fits.0
     (λ i. place_id (table i) (sleeper i)) pb.1 two in

@@ -15,20 +15,20 @@ returns-then-is_served-clause-came g c = λ f x is.
     took_also D.rest D.ready
     (λ log. admissions log.events ≡ x) t.1 t.2 c.take_guarded.ensures.taken c.take_guarded.ensures.empty
 
-pub keep_looking-requires-clause-asked : goal.keep_looking-requires-clause-asked
-keep_looking-requires-clause-asked g c =
+pub keep_polling-requires-clause-asked : goal.keep_polling-requires-clause-asked
+keep_polling-requires-clause-asked g c =
     let a = c.requires.asked in
     (a.0, a.1, c.is_served.ensures.missed c.if-is_served.false ∙ a.2, a.3, a.4)
 
 pub take_guarded-requires-2-clause-full : goal.take_guarded-requires-2-clause-full
 take_guarded-requires-2-clause-full g c =
     let a = c.requires.asked in
-    let t = c.keep_looking.ensures.let_in a.0 a.1 (c.is_served.ensures.missed c.if-is_served.false ∙ a.2) in
+    let t = c.keep_polling.ensures.let_in a.0 a.1 (c.is_served.ensures.missed c.if-is_served.false ∙ a.2) in
     (_, t.0, t.1.me_is)
 
 pub returns-clause-came : goal.returns-clause-came
 returns-clause-came g c = λ f x is.
     let D = g.D.MonitorData in
-    let t = c.keep_looking.ensures.let_in f x (c.is_served.ensures.missed c.if-is_served.false ∙ is) in
+    let t = c.keep_polling.ensures.let_in f x (c.is_served.ensures.missed c.if-is_served.false ∙ is) in
     took_also D.rest D.ready
     (λ log. admissions log.events ≡ x) t.1 t.2 c.take_guarded-2.ensures.taken c.take_guarded-2.ensures.empty

@@ -1,5 +1,5 @@
 use Rattle.std.proofs.Common.{◌∙◌}
-use Rattle.ticket_door.proofs.door.RawTicketDoor.keep_looking.Goals as goal
+use Rattle.ticket_door.proofs.door.RawTicketDoor.keep_polling.Goals as goal
 
 pub is_served-requires-clause-asked : goal.is_served-requires-clause-asked
 is_served-requires-clause-asked g c =

@@ -1,5 +1,5 @@
 use Rattle.std.proofs.Common.{◌≡◌}
-use Rattle.ticket_door.proofs.door.RawTicketDoor.keep_looking.Given as goal
+use Rattle.ticket_door.proofs.door.RawTicketDoor.keep_polling.Given as goal
 
 abbrev pub invariant-loop : goal.invariant-loop
 invariant-loop g l =

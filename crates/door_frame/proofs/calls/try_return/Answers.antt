@@ -39,4 +39,4 @@ returns-in-None-clause-same g c =
     let parts = c.into_parts-seat.ensures in
     c.of_parts.ensures c.args.away.front (c.in-None.ensures.same ∙ away_as parts.1 parts.2)
     ∙ (λ i. place_out ((place_id_on g.S.Parking.at _ c.in-None.ensures.table ∙ parts.0) i) (parts.1 i)
-        c.args.away.front)
+    c.args.away.front)

@@ -16,8 +16,8 @@ enum Conditions {
     Mesa,
 }
 
-// The order of the rows: each half is the other with the kinds exchanged. So what earlier rows leave behind, such as
-// free room in memory, affects neither kind more than the other.
+// The order of the rows: each half is the other with the kinds exchanged. So what earlier rows leave in memory,
+// such as free room, affects neither kind more than the other.
 const IN_TURN: [Conditions; 16] = [
     Conditions::Hoare,
     Conditions::Mesa,

@@ -217,8 +217,8 @@ fn called_of(book: &Book) -> usize {
     count
 }
 
-// 2,000 steps. In each 400 of them the chain of a Mesa condition is filled up to 63, notifies and broadcasts move its
-// waiters to the chain of the notified, and then the notified places resume and leave, until that chain is empty.
+// 2,000 steps. In each 400 of them the chain of a Mesa condition is filled up to 63, and notifies and broadcasts move
+// its waiters to the chain of the notified. Then the notified places resume and leave, until that chain is empty.
 #[test]
 fn fills_and_empties_the_called(rt: HostRuntime) -> Result<(), Fail> {
     let mut book = made(&rt, 64, 8, 1);

@@ -50,8 +50,8 @@ const MIDDLE: &[&str] = &[
         <rect class=\"inside\" x=\"20\" y=\"138\" width=\"68\" height=\"22\" rx=\"4\"/>\n",
 ];
 
-// The arrow of step 4, the last that is shown, is drawn, and nothing of steps 1, 2, 5 and 6, except that the wait of
-// step 2 goes on beside step 3. The legend has one arrow of each kind.
+// The arrow of step 4, the last that is shown, is drawn, and nothing of steps 1, 2, 5 and 6, except the box of the wait
+// of step 2, beside step 3. The legend has one arrow of each kind.
 #[test]
 fn middle_steps_with_a_box_from_before(rt: HostRuntime) {
     let text = cut(&rt, HAND_OVER, 3, 4);

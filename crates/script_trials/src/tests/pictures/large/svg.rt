@@ -200,8 +200,8 @@ fn add_arrow(text: &mut String, class: &str, y: u64, from: u64, to: u64) -> Resu
 
 const DOT: &str = "<circle cx=\"#\" cy=\"#\" r=\"4\"/>\n";
 
-// Adds the arrow of the signal that resumes a place, from the signaller's box to that of the place; a dot at the point
-// at which the place left; and from there the arrow of the return to the signaller's box.
+// Adds the arrow of the signal that resumes a place, from the signaller's box to that of the place. Then adds a dot at
+// the point at which the place left, and from there the arrow of the return to the signaller's box.
 fn add_hand_overs(text: &mut String, place: u64) -> Result<(), AllocError> {
     let (side, facing) = if place < SIGNALLER {
         (left(SIGNALLER), right(place))

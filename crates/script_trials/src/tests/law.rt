@@ -61,9 +61,9 @@ fn first_goes_first<S>()
     laws::waiters_taken_in_turn::<S>();
 }
 
-// What the definitions of overtaking count in three lists written by hand. The first is after a signal of place 1, which
-// resumes place 2 from condition 0. The second is after a notify by place 3 on the Mesa condition 1. The third is a list
-// of three waits and a notify.
+// What the definitions of overtaking count in three lists written by hand. The first is after a signal of place 1,
+// which resumes place 2 from condition 0. The second is after a notify by place 3 on the Mesa condition 1. The third is
+// a list of three waits and a notify.
 fn counts_by_hand()
     ensures after_a_signal { let later : List (Event ⊤) = Resume 2 0 tt ∷ Wait 2 0 5 tt ∷ Back 1 tt
         ∷ Pass 1 0 2 tt ∷ Resume 2 0 tt ∷ Leave 2 tt ∷ [] in

@@ -23,8 +23,3 @@ pub fn reads_as<T: Display, R: Abort>(rt: &R, alloc: Global, value: &T, wanted: 
 pub fn answered<R: Abort>(rt: &R, door: DoorType, answers: &[u64], wanted: &[u64]) {
     expect_same(rt, (door, answers), (door, wanted));
 }
-
-/// Fails the test unless `answers`, of a row on a door of this type, has one answer for each of `places` places.
-pub fn all_answered<R: Abort>(rt: &R, door: DoorType, answers: &[u64], places: usize) {
-    expect_same(rt, (door, answers.len()), (door, places));
-}

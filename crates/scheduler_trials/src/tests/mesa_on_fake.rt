@@ -1,9 +1,11 @@
-//! The buffer with Mesa conditions on the fake monitor: a process that resumes after a wait tests again.
+//! The buffer with Mesa conditions on the fake monitor: a process that resumes after a wait tests again, and a
+//! broadcast without waiters notifies none.
 ghost use Rattle.plain_schedulers.specs.Buffers.{BufferHolds};
 
 use crate::tests::compared::expect_same;
 use crate::tests::fake::{BufferStep, take_data, with_answers};
 use hoare_law::monitor::Monitor;
+use plain_schedulers::buffer::NONEMPTY;
 use plain_schedulers::buffer::mesa::MesaBuffer;
 use std::alloc::Global;
 use std::process::Abort;
@@ -36,8 +38,8 @@ fn takes_step<R: Wait + Abort, M: Monitor<MesaBuffer<u8>>>(
     }
 }
 
-// Takes the step at a buffer without an item, with these answers. Returns the data that are left.
-fn on_empty<R: Wait + Abort, const N: usize>(
+/// Takes the step at a buffer of one cell without an item, with these answers. Returns the data that are left.
+pub fn on_empty<R: Wait + Abort, const N: usize>(
     rt: &R,
     alloc: Global,
     answers: [MesaBuffer<u8>; N],
@@ -55,4 +57,14 @@ fn a_remove_tests_again_after_each_call(host: HostRuntime) {
     let with_five = on_empty(rt, alloc, [], BufferStep::Appends(5));
     let answers = [empty(rt, alloc), with_five];
     on_empty(rt, alloc, answers, BufferStep::Removes(5));
+}
+
+// No process waits at the fake monitor.
+#[test]
+fn a_broadcast_without_waiters_notifies_none(host: HostRuntime) {
+    let (rt, alloc) = (&host, host.alloc());
+    let (fake, out) = with_answers(rt, alloc, empty(rt, alloc), []);
+    let mut inside = fake.enter(rt, out);
+    expect_same(rt, fake.broadcast(&mut inside, NONEMPTY), 0);
+    fake.leave(rt, inside);
 }

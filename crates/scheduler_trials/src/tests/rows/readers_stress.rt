@@ -2,6 +2,7 @@
 //! may do.
 ghost use Rattle.std.specs.Prelude.{◌≡◌, ◌<◌};
 
+use crate::tests::compared::expect_same;
 use crate::tests::rows::reading::{Shared, ends_read, ends_write, waiting};
 use crate::tests::rows::shared_log::{Log, Rules, linger};
 use hoare_law::monitor::Monitor;
@@ -229,20 +230,24 @@ pub fn reads_or_writes_on<R: Wait + Abort + Clock, M: Monitor<Shared>>(
     }
 }
 
-// Returns the number of places that were seen to wait to read when a write was about to end, summed over all writes.
-fn count_first(lines: &[Line]) -> usize {
-    let mut sum = 0usize;
+// Returns the number of places that were seen to wait to read when a write was about to end, summed over all writes;
+// and how often a place saw another wait to write.
+fn count_waits(lines: &[Line]) -> (usize, usize) {
+    let (mut read_first, mut seen) = (0usize, 0usize);
     for line in lines {
-        if let Line::EndsWrite { waiting, .. } = line {
-            sum = sum.saturating_add(*waiting);
+        match line {
+            Line::EndsWrite { waiting, .. } => read_first = read_first.saturating_add(*waiting),
+            Line::Sees { .. } => seen = seen.saturating_add(1),
+            _ => (),
         }
     }
-    sum
+    (read_first, seen)
 }
 
-/// Fails the test unless the lines are what readers and writers may do. At least ten times a reader must have seen a
-/// waiting writer that goes before it, and at least ten reads must have waited for the end of a write.
-pub fn is_read_and_written<R: Abort>(rt: &R, log: Log<Line>) {
+/// Fails the test unless the lines are what readers and writers may do, all were written, and `left`, the value that
+/// the row left, is that of the last write. At least ten times a reader must have seen a waiting writer that goes
+/// before it, and at least ten reads must have waited for the end of a write.
+pub fn is_read_and_written<R: Abort>(rt: &R, log: Log<Line>, left: u64) {
     let mut room = Room {
         reading: [false; PLACES],
         writer: None,
@@ -253,7 +258,10 @@ pub fn is_read_and_written<R: Abort>(rt: &R, log: Log<Line>) {
         read_first: 0,
     };
     let lines = log.checked(rt, &mut room);
-    let (met_writers, read_first) = (room.met_writers, count_first(lines.as_slice()));
+    let (read_first, seen) = count_waits(lines.as_slice());
+    let counted = lines.len().saturating_sub(seen);
+    expect_same(rt, (counted, room.value), (2400, left));
+    let met_writers = room.met_writers;
     assert!(rt;
         met_writers >= 10 && read_first >= 10,
         "{met_writers} and {read_first}"

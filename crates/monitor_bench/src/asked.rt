@@ -37,16 +37,18 @@ release_1, _60: a release of the disk head alone, as the first of a sweep on whi
        cylinders, a thousandth of TURNS
 with --buffers, buffer_1_1, mesa_buffer_1_1, buffer_4_4 and mesa_buffer_4_4 alone: those of Hoare's conditions and those
        with Mesa conditions in turn, eight rows of each in one run, and their mean
-with --book, the steps of a book of queues alone, on one thread; TURNS in sum for each figure, which is their mean:
+with --book, the steps of a book of queues alone, on one thread. Each figure is a mean: of book_broadcast_N,
+       book_count_N and clock over TURNS / 63 calls, of all others over TURNS, less an incomplete last round:
 book_enter_leave: a place enters and leaves, and no place waits (64 places, 8 conditions)
 book_enter_wait: a place enters and waits on the next of eight conditions, with up to 62 others waiting
 book_signal_leave: a signal resumes a place, which leaves, with up to 62 others waiting
 with --book --orders, on one condition:
 book_enter_wait_ORDER_N, book_signal_leave_ORDER_N: 1, 8 or 63 wait, with priorities that are equal, rising or falling
-book_notify, book_broadcast_N: one of 63 waiters on a Mesa condition is notified, or all N, 1, 8 or 63; these calls
-       alone are measured
+book_notify: 63 waiters on a Mesa condition are notified one by one; the mean of a notify with 63, 62, .. 1 waiters
+book_broadcast_N: all N waiters on a Mesa condition are notified at once, 1, 8 or 63; these calls alone are measured
 book_count_N: N waiters are counted along the chain, as a broadcast does that returns how many it notified
-clock: two reads of the clock, of which a share is in each figure: once for N waits, and once for N signals
+clock: one read of the clock. Of its time 1 / N is in each wait and signal (1 / 63 with --book alone), 1 / 63 in
+       book_notify, and all in book_broadcast_N and book_count_N
 size: the bytes of a book, without those on the heap
 bench/run compares these with other monitors; bench/schedulers takes those of the schedulers, bench/buffers of the
        buffers in turn, bench/book of the book";

@@ -9,7 +9,7 @@ use crate::opening::last_place;
 use crate::procedures::append_remove;
 use crate::tries::{Found, tried};
 use crate::turns::{
-    add_many, append_many, link_many, pull_many, remove_many, signal_many, wait_many,
+    add_many, append_many, link_many, pull_many, remove_many, signal_many, test_sums, wait_many,
 };
 use baton_door::door::Door;
 use hoare_law::monitor::Monitor;
@@ -218,19 +218,20 @@ where
     Ok(())
 }
 
-// Half of the threads append to a buffer, and the others remove, `turns` times each.
+// Half of the threads append to a buffer, and the others remove, `turns` times each. Returns the sum of what each
+// thread removed.
 fn buffered<R: Threads + Wait + Sync, M: SharedBuffer>(
     rt: &R,
     m: &M,
     places: Vec<M::Out>,
     turns: u64,
-) -> io::Result<()>
+) -> io::Result<Vec<u64>>
 where
     M::Lists: Send,
     requires { All (M.is_of m.now) places.items }
 {
     let roles = AtomicU64::new(0);
-    thread::map_vec(
+    let sums = thread::map_vec(
         rt,
         places,
         &|out| -> u64
@@ -244,7 +245,7 @@ where
             }
         },
     )?;
-    Ok(())
+    Ok(sums)
 }
 
 /// What the threads of a buffer do.
@@ -257,49 +258,61 @@ pub enum BufferLoad {
 }
 
 /// Lets the threads of a buffer do their load, `turns` times each. Returns how long that took. Returns an error if out
-/// of memory, if there is no place for `Alone`, or if the clock fails. `Shared` has to have an even number of places:
-/// else it may never end.
+/// of memory, if there is no place for `Alone`, if the clock fails, or if the sum of what `Shared` removes is wrong.
+/// `Shared` has to have an even number of places: else it may never end.
 pub fn work_buffer<R: Threads + Wait + Clock + Sync, M: SharedBuffer>(
     rt: &R,
     m: &M,
     places: Vec<M::Out>,
     load: BufferLoad,
     turns: u64,
-) -> io::Result<Duration>
+) -> anyhow::Result<Duration>
 where
     M::Lists: Send,
     requires { All (M.is_of m.now) places.items }
 {
     let start = Instant::now(rt)?;
     match load {
-        BufferLoad::Shared => buffered(rt, m, places, turns)?,
-        BufferLoad::Alone => append_remove(rt, m, last_place(m, places)?, turns),
+        BufferLoad::Shared => {
+            let sums = buffered(rt, m, places, turns)?;
+            let spent = start.elapsed(rt)?;
+            test_sums(&sums, turns)?;
+            Ok(spent)
+        }
+        BufferLoad::Alone => {
+            append_remove(rt, m, last_place(m, places)?, turns);
+            Ok(start.elapsed(rt)?)
+        }
     }
-    start.elapsed(rt)
 }
 
 /// Eight threads wait, signal, pass and leave, in `turns` visits each; a ninth, the last to start, resumes waiters
-/// until the others are done. Returns how long that took. Returns an error if out of memory or if the clock fails.
+/// until the others are done. Returns how long that took. Returns an error if out of memory, if the clock fails, or if
+/// the data have another number of entries and returns than the eight threads counted themselves.
 pub fn mixed<R: Threads + Wait + Clock + Sync, M: SharedMixed>(
     rt: &R,
     m: &M,
     places: Vec<M::Out>,
     turns: u64,
-) -> io::Result<Duration>
+) -> anyhow::Result<Duration>
 where
     M::Lists: Send,
     requires { All (M.is_of m.now) places.items }
 {
     let start = Instant::now(rt)?;
     let roles = AtomicU64::new(0);
-    thread::map_vec(
+    let ended = thread::map_vec(
         rt,
         places,
-        &|out| -> ()
+        &|out| -> anyhow::Result<()>
             requires { M.is_of m.now out }
         { mix(rt, m, out, roles.fetch_add(1, Ordering::SeqCst), turns) },
     )?;
-    start.elapsed(rt)
+    let spent = start.elapsed(rt)?;
+    for one in ended {
+        one?;
+    }
+    Ok(spent)
 }
 
 /// All threads enter and leave, `turns` times each. Returns what each of them met, or an error if out of memory.

@@ -8,6 +8,9 @@
 //!   buffers with conditions of either kind in turn.
 //! - `monitor_bench --book TURNS` measures the book of queues alone. With `--orders` before TURNS it measures other
 //!   loads on the book, the clock, and the size of a book in bytes.
+//!
+//! If TURNS is no number, or if a word follows it, the program prints on standard error how it is called, and ends with
+//! status 2.
 #![tactic(auto)]
 
 mod asked;
@@ -87,7 +90,7 @@ fn main(rt: HostRuntime) -> anyhow::Result<ExitCode> {
         return Ok(ExitCode::SUCCESS);
     };
     let (asked, word) = asked(word, &mut words);
-    let Ok(turns) = word.parse::<u64>() else {
+    let (Ok(turns), None) = (word.parse::<u64>(), words.next()) else {
         eprintln!(rt; "{USAGE}")?;
         return Ok(ExitCode::from(2));
     };

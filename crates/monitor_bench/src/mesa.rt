@@ -1,15 +1,16 @@
 //! A bounded buffer with Mesa conditions, over any monitor: what its threads do, and how long that took.
 ghost use Rattle.std.specs.Prelude.{All};
 
+use crate::turns::test_sums;
 use baton_door::door::Door;
 use hoare_law::monitor::Monitor;
 use plain_schedulers::buffer::mesa::MesaBuffer;
 use std::rt::Clock;
 use std::sync::Wait;
 use std::sync::atomic::{AtomicU64, Ordering};
+use std::thread;
 use std::thread::Threads;
 use std::time::{Duration, Instant};
-use std::{io, thread};
 use ticket_door::door::TicketDoor;
 
 /// A monitor of a buffer with Mesa conditions, which threads share.
@@ -29,7 +30,7 @@ fn append_many<R: Wait, M: Monitor<MesaBuffer<u64>>>(rt: &R, m: &M, out: M::Out,
     }
 }
 
-// Removes `turns` items, and returns their sum.
+// Removes `turns` items, and returns their sum, modulo 2^64.
 fn remove_many<R: Wait, M: Monitor<MesaBuffer<u64>>>(rt: &R, m: &M, out: M::Out, turns: u64) -> u64
     requires { M.is_of m.now out }
 {
@@ -44,20 +45,20 @@ fn remove_many<R: Wait, M: Monitor<MesaBuffer<u64>>>(rt: &R, m: &M, out: M::Out,
 }
 
 /// Half of the threads append, and the others remove, `turns` times each. Returns how long that took, or an error if
-/// out of memory or if the clock fails.
+/// out of memory, if the clock fails, or if the sum of the removed items is wrong.
 pub fn mesa_buffered<R: Threads + Wait + Clock + Sync, M: SharedMesaBuffer>(
     rt: &R,
     m: &M,
     places: Vec<M::Out>,
     turns: u64,
-) -> io::Result<Duration>
+) -> anyhow::Result<Duration>
 where
     M::Lists: Send,
     requires { All (M.is_of m.now) places.items }
 {
     let start = Instant::now(rt)?;
     let roles = AtomicU64::new(0);
-    thread::map_vec(
+    let sums = thread::map_vec(
         rt,
         places,
         &|out| -> u64
@@ -71,5 +72,7 @@ where
             }
         },
     )?;
-    start.elapsed(rt)
+    let spent = start.elapsed(rt)?;
+    test_sums(&sums, turns)?;
+    Ok(spent)
 }

@@ -16,6 +16,8 @@ pub const WORKERS: u64 = 8;
 pub struct Visits {
     /// How often a worker entered for a visit, or came back from a wait or a signal.
     pub visits: u64,
+    /// The same, as the workers that are done counted it themselves.
+    pub counted: u64,
     /// How many workers are done.
     pub finished: u64,
 }
@@ -59,24 +61,25 @@ fn leave<R: Wait, M: Monitor<Mixed>>(rt: &R, m: &M, inside: M::In) -> M::Out
     m.leave(rt, inside)
 }
 
-// Makes one visit of a worker, by the number `lot`: it waits, signals, passes or just leaves.
-fn visit<R: Wait, M: Monitor<Mixed>>(rt: &R, m: &M, out: M::Out, lot: u64) -> M::Out
+// Makes one visit of a worker, by the number `lot`: it waits, signals, passes or just leaves. Returns also how often it
+// entered or came back from a wait or a signal.
+fn visit<R: Wait, M: Monitor<Mixed>>(rt: &R, m: &M, out: M::Out, lot: u64) -> (M::Out, u64)
     requires { M.is_of m.now out }
-    ensures { M.is_of m.now result }
+    ensures { M.is_of m.now result.0 }
 {
     let condition = (lot / 8 % 3) as usize;
     let inside = m.enter(rt, out);
     let inside = note(m, inside);
     if lot % 8 < 3 && may_wait(m, &inside) {
         let inside = m.wait(rt, inside, condition, lot / 32 % 4);
-        return leave(rt, m, inside);
+        return (leave(rt, m, inside), 2);
     }
     if lot % 8 < 6 && m.queue(&inside, condition) {
         let (inside, _resumed) = m.signal(rt, inside, condition);
-        return leave(rt, m, inside);
+        return (leave(rt, m, inside), 2);
     }
     let (out, _resumed) = m.signal_leave(rt, inside, condition);
-    out
+    (out, 1)
 }
 
 // Makes `turns` visits, by numbers that begin with `me`, then enters once more and counts this worker as done.
@@ -85,27 +88,35 @@ fn visit_many<R: Wait, M: Monitor<Mixed>>(rt: &R, m: &M, out: M::Out, me: u64, t
 {
     let mut out = out;
     let mut lot = draw(me);
+    let mut counted = 0u64;
     for _ in 0..turns {
         lot = draw(lot);
-        out = visit(rt, m, out, lot / 65536);
+        let (again, more) = visit(rt, m, out, lot / 65536);
+        out = again;
+        counted = counted.wrapping_add(more);
     }
     let mut inside = m.enter(rt, out);
     let data = M::state_mut(&mut inside, m);
+    data.value.counted = data.value.counted.wrapping_add(counted);
     data.value.finished = data.value.finished.saturating_add(1);
     m.leave(rt, inside);
 }
 
-// Resumes waiters, by passes on each condition in turn, until all workers are done.
-fn sweep<R: Wait, M: Monitor<Mixed>>(rt: &R, m: &M, out: M::Out)
+// Resumes waiters, by passes on each condition in turn, until all workers are done. Returns an error if the data then
+// have another number of visits than the workers counted.
+fn sweep<R: Wait, M: Monitor<Mixed>>(rt: &R, m: &M, out: M::Out) -> anyhow::Result<()>
     requires { M.is_of m.now out }
 {
     let mut out = out;
     let mut condition = 0usize;
     for _ in rt.forever() {
         let inside = m.enter(rt, out);
-        if m.state(&inside).value.finished >= WORKERS {
+        let data = &m.state(&inside).value;
+        let (is_last, is_right) = (data.finished >= WORKERS, data.visits == data.counted);
+        if is_last {
             m.leave(rt, inside);
-            return;
+            anyhow::ensure!(is_right, "the workers counted another number of visits");
+            return Ok(());
         }
         let (again, _resumed) = m.signal_leave(rt, inside, condition % 3);
         out = again;
@@ -119,18 +130,27 @@ fn sweep<R: Wait, M: Monitor<Mixed>>(rt: &R, m: &M, out: M::Out)
 pub fn unvisited() -> Mixed {
     let none = Visits {
         visits: 0,
+        counted: 0,
         finished: 0,
     };
     Unconstrained { value: none }
 }
 
 /// Does the work of one thread: that of a worker if `role` is below `WORKERS`, otherwise that of the ninth thread,
-/// which resumes waiters.
-pub fn mix<R: Wait, M: Monitor<Mixed>>(rt: &R, m: &M, out: M::Out, role: u64, turns: u64)
+/// which resumes waiters. Returns an error only from the ninth thread: if the data then have another number of visits
+/// than the workers counted.
+pub fn mix<R: Wait, M: Monitor<Mixed>>(
+    rt: &R,
+    m: &M,
+    out: M::Out,
+    role: u64,
+    turns: u64,
+) -> anyhow::Result<()>
     requires { M.is_of m.now out }
 {
     if role < WORKERS {
-        visit_many(rt, m, out, role, turns)
+        visit_many(rt, m, out, role, turns);
+        Ok(())
     } else {
         sweep(rt, m, out)
     }

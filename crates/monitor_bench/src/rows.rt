@@ -107,7 +107,8 @@ fn wide_row<R: Clock + Threads + Wait + Sync>(
 }
 
 /// Measures a buffer with Hoare's conditions on a door of this kind with `count` places. Returns how long the load
-/// took, done `turns` times. Returns an error if out of memory, if `count` isn't 1 to 64, or if the clock fails.
+/// took, done `turns` times. Returns an error if out of memory, if `count` isn't 1 to 64, if the clock fails, or if the
+/// sum of what `Shared` removes is wrong.
 pub fn buffer_row<R: Clock + Threads + Wait + Sync>(
     rt: &R,
     alloc: Global,
@@ -115,7 +116,7 @@ pub fn buffer_row<R: Clock + Threads + Wait + Sync>(
     count: usize,
     load: BufferLoad,
     turns: u64,
-) -> io::Result<Duration> {
+) -> anyhow::Result<Duration> {
     on_places!(
         kind,
         rt,
@@ -127,15 +128,15 @@ pub fn buffer_row<R: Clock + Threads + Wait + Sync>(
 }
 
 /// Measures a buffer with Mesa conditions that is shared by `count` threads, on a door of this kind. Returns how long
-/// the load took, done `turns` times. Returns an error if out of memory, if `count` isn't 1 to 64, or if the clock
-/// fails.
+/// the load took, done `turns` times. Returns an error if out of memory, if `count` isn't 1 to 64, if the clock fails,
+/// or if the sum of the removed items is wrong.
 pub fn mesa_row<R: Clock + Threads + Wait + Sync>(
     rt: &R,
     alloc: Global,
     kind: DoorKind,
     count: usize,
     turns: u64,
-) -> io::Result<Duration> {
+) -> anyhow::Result<Duration> {
     on_places!(
         kind,
         rt,
@@ -153,7 +154,7 @@ fn mixed_row<R: Clock + Threads + Wait + Sync>(
     kind: DoorKind,
     count: usize,
     turns: u64,
-) -> io::Result<Duration> {
+) -> anyhow::Result<Duration> {
     on_places!(kind, rt, alloc, unvisited(), count, mixed(turns))
 }
 
@@ -266,9 +267,9 @@ fn time_of<R: Eprint + Clock + Threads + Wait + Sync>(
     match row.load {
         Load::Counter(load) => counter_row(rt, alloc, kind, count, load, turns),
         Load::Wide(load) => Ok(wide_row(rt, alloc, kind, count, load, turns)?),
-        Load::Buffer(load) => Ok(buffer_row(rt, alloc, kind, count, load, turns)?),
-        Load::MesaBuffer => Ok(mesa_row(rt, alloc, kind, count, turns)?),
-        Load::Mixed => Ok(mixed_row(rt, alloc, kind, count, turns)?),
+        Load::Buffer(load) => buffer_row(rt, alloc, kind, count, load, turns),
+        Load::MesaBuffer => mesa_row(rt, alloc, kind, count, turns),
+        Load::Mixed => mixed_row(rt, alloc, kind, count, turns),
         Load::Single => single_row(rt, alloc, kind, turns),
         Load::Pool(buffers, kept) => pool_row(rt, alloc, kind, (buffers, kept), turns),
         Load::Alarm(load) => alarm_row(rt, alloc, kind, count, load, turns),

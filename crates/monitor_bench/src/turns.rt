@@ -143,7 +143,7 @@ pub fn append_many<R: Wait, M: Monitor<Buffer<u64>>>(rt: &R, m: &M, out: M::Out,
     }
 }
 
-/// Removes `turns` items, and returns their sum.
+/// Removes `turns` items, and returns their sum, modulo 2^64.
 pub fn remove_many<R: Wait, M: Monitor<Buffer<u64>>>(rt: &R, m: &M, out: M::Out, turns: u64) -> u64
     requires { M.is_of m.now out }
 {
@@ -155,4 +155,14 @@ pub fn remove_many<R: Wait, M: Monitor<Buffer<u64>>>(rt: &R, m: &M, out: M::Out,
         sum = sum.wrapping_add(item);
     }
     sum
+}
+
+/// Tests what was removed from a buffer to which half of the threads appended the numbers below `turns`. `sums` has the
+/// sum of what each thread removed. Returns an error if all together isn't the sum of what was appended, modulo 2^64.
+pub fn test_sums(sums: &[u64], turns: u64) -> anyhow::Result<()> {
+    let removed = sums.iter().fold(0u64, |all, sum| all.wrapping_add(*sum));
+    let each = (0..turns).fold(0u64, |all, item| all.wrapping_add(item));
+    let appended = each.wrapping_mul(sums.len() as u64 / 2);
+    anyhow::ensure!(removed == appended, "the removed items have the wrong sum");
+    Ok(())
 }

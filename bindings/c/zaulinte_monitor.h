@@ -163,7 +163,7 @@ static inline const char *zaulinte_text(uint64_t code) {
     case ZAULINTE_DONE: return "done";
     case ZAULINTE_NO_PLACE: return "there is no such place";
     case ZAULINTE_NOT_FREE: return "the monitor isn't free";
-    case ZAULINTE_NOT_OUTSIDE: return "the place is inside, or another thread has it";
+    case ZAULINTE_NOT_OUTSIDE: return "the place isn't outside, or another thread has it";
     case ZAULINTE_NOT_INSIDE: return "the place isn't inside";
     case ZAULINTE_NO_CONDITION: return "there is no such condition";
     case ZAULINTE_WRONG_KIND: return "the condition is of the other kind";

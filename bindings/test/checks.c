@@ -1,50 +1,119 @@
-/* What a build with ZAULINTE_CHECKS finds: `checks FAULT`, with a store of items for which a consumer waits. Each fault
- * but `none` ends by an abort, after a line that names the assertion, the place and the condition. */
+/* What a build with ZAULINTE_CHECKS finds: `checks FAULT`. Two consumers wait on one of Hoare's conditions, and a
+ * listener on a Mesa condition. `rest` and `ready` compare the waiters that they are given with an account, which the
+ * thread inside keeps. Each fault but `none` ends by an abort, after a line that names the assertion, the place and the
+ * condition. `null` is no fault: all three functions are null pointers. */
 #include "zaulinte_monitor.h"
+#include <inttypes.h>
 #include <pthread.h>
 #include <sched.h>
 #include <string.h>
 
-enum { PRODUCER, CONSUMER, PLACES, NONEMPTY = 0, CONDITIONS = 1 };
+enum { CONSUMER, SECOND, LISTENER, PRODUCER, PLACES };
+enum { NONEMPTY, FULL, CHANGED = 7, CONDITIONS, MESA = 2 };
+enum { LATER = 7, SOONER = 5 }; /* the consumers' priorities */
 static zaulinte_monitor m;
 static struct store {
     int items;
+    zaulinte_waiting account;
 } store;
-static _Atomic bool waits;
 
+static bool is_account(const zaulinte_waiting *w) { return memcmp(w, &store.account, sizeof *w) == 0; }
 static bool inv(void *at) { return ((struct store *)at)->items >= 0; }
 static bool rest(void *at, const zaulinte_waiting *w) {
-    return ((struct store *)at)->items == 0 || w->count[NONEMPTY] == 0;
+    return is_account(w) && (((struct store *)at)->items == 0 || w->count[NONEMPTY] == 0);
 }
 static bool ready(void *at, uint32_t condition, uint64_t priority, const zaulinte_waiting *w) {
-    return ((struct store *)at)->items > 0 && condition == NONEMPTY && priority == 5 && w->count[NONEMPTY] == 0;
+    uint64_t wanted = w->count[NONEMPTY] ? SOONER : LATER;
+    return is_account(w) && ((struct store *)at)->items > 0 && condition == NONEMPTY && priority == wanted;
 }
-static void *consumes(void *unused) {
-    ZAULINTE_CHECK(zaulinte_enter(&m, CONSUMER));
-    waits = true;
-    ZAULINTE_CHECK(zaulinte_wait(&m, CONSUMER, NONEMPTY, 5));
+/* Writes into the account that so many wait on the condition, the first of them with `first`. */
+static void account(uint32_t condition, uint64_t count, uint64_t first) {
+    store.account.count[condition] = count, store.account.first[condition] = first;
+}
+static void is(int line, uint64_t found, uint64_t wanted) {
+    if (found == wanted) return;
+    fprintf(stderr, "checks.c, line %d: %" PRIu64 " and not %" PRIu64 "\n", line, found, wanted);
+    exit(1);
+}
+#define IS(call, wanted) is(__LINE__, (call), (wanted))
+
+static void *consumes(void *place) {
+    uint32_t me = (uint32_t)(uintptr_t)place;
+    ZAULINTE_CHECK(zaulinte_enter(&m, me));
+    account(NONEMPTY, me + 1, me == SECOND ? SOONER : LATER); /* the second waits when the first does */
+    ZAULINTE_CHECK(zaulinte_wait(&m, me, NONEMPTY, me == SECOND ? SOONER : LATER));
     store.items--;
-    ZAULINTE_CHECK(zaulinte_leave(&m, CONSUMER));
+    ZAULINTE_CHECK(zaulinte_leave(&m, me));
+    return NULL;
+}
+static void *listens(void *unused) {
+    ZAULINTE_CHECK(zaulinte_enter(&m, LISTENER));
+    account(CHANGED, 1, 9);
+    ZAULINTE_CHECK(zaulinte_wait(&m, LISTENER, CHANGED, 9));
+    ZAULINTE_CHECK(zaulinte_leave(&m, LISTENER));
     return unused;
 }
-static bool is(const char *fault, const char *name) { return strcmp(fault, name) == 0; }
-/* the place of the producer is inside */
-static void produces(const char *fault) {
-    store.items = is(fault, "inv-leave") || is(fault, "inv-signal") ? -1 : !is(fault, "ready");
-    if (is(fault, "rest-wait")) ZAULINTE_CHECK(zaulinte_wait(&m, PRODUCER, NONEMPTY, 1));
-    if (!is(fault, "rest-leave") && !is(fault, "inv-leave"))
-        ZAULINTE_CHECK(zaulinte_signal(&m, PRODUCER, NONEMPTY, NULL));
-    ZAULINTE_CHECK(zaulinte_leave(&m, PRODUCER));
+/* Starts a consumer or the listener, and returns once it waits. */
+static pthread_t waiter(uint32_t place) {
+    pthread_t id;
+    uint64_t waits = 0, wanted = place == LISTENER ? 1 : place + 1;
+    pthread_create(&id, NULL, place == LISTENER ? listens : consumes, (void *)(uintptr_t)place);
+    while (waits != wanted) {
+        sched_yield();
+        ZAULINTE_CHECK(zaulinte_enter(&m, PRODUCER));
+        ZAULINTE_CHECK(zaulinte_count(&m, PRODUCER, place == LISTENER ? CHANGED : NONEMPTY, &waits));
+        ZAULINTE_CHECK(zaulinte_leave(&m, PRODUCER));
+    }
+    return id;
+}
+/* A refused act tests nothing, and inv doesn't hold here. */
+static void is_refused(void) {
+    store.items = -1;
+    IS(zaulinte_wait(&m, PRODUCER, CONDITIONS, 0), ZAULINTE_NO_CONDITION);
+    IS(zaulinte_wait(&m, PRODUCER, UINT32_MAX, 0), ZAULINTE_NO_CONDITION);
+    IS(zaulinte_signal(&m, PRODUCER, CHANGED, NULL), ZAULINTE_WRONG_KIND);
+    IS(zaulinte_signal_leave(&m, PRODUCER, CHANGED, NULL), ZAULINTE_WRONG_KIND);
+    IS(zaulinte_signal_leave(&m, PRODUCER, CONDITIONS, NULL), ZAULINTE_NO_CONDITION);
+    store.items = 0;
+}
+/* Sets the data so that an act of the producer, who is inside, is at fault. Returns the code of the act. */
+static uint64_t errs(const char *fault) {
+    const char *act = strchr(fault, '-');
+    store.items = strncmp(fault, "inv", 3) == 0 ? -1 : strncmp(fault, "rest", 4) == 0;
+    if (!act) account(NONEMPTY, 1, LATER); /* ready: there is no item */
+    else if (!strcmp(act, "-wait")) account(FULL, 1, 3);
+    if (!act || !strcmp(act, "-signal")) return zaulinte_signal(&m, PRODUCER, NONEMPTY, NULL);
+    if (!strcmp(act, "-wait")) return zaulinte_wait(&m, PRODUCER, FULL, 3);
+    if (!strcmp(act, "-signal-leave")) return zaulinte_signal_leave(&m, PRODUCER, NONEMPTY, NULL);
+    if (!strcmp(act, "-signal-nobody")) return zaulinte_signal_leave(&m, PRODUCER, FULL, NULL);
+    return zaulinte_leave(&m, PRODUCER);
+}
+/* Resumes all: the second consumer by a signal, then the listener after the first consumer. */
+static void produces(void) {
+    store.items = 1;
+    account(NONEMPTY, 1, LATER);
+    ZAULINTE_CHECK(zaulinte_signal(&m, PRODUCER, NONEMPTY, NULL));
+    IS((uint64_t)store.items, 0);
+    account(CHANGED, 0, 0);
+    ZAULINTE_CHECK(zaulinte_notify(&m, PRODUCER, CHANGED, NULL));
+    store.items = 1;
+    account(NONEMPTY, 0, 0);
+    ZAULINTE_CHECK(zaulinte_signal_leave(&m, PRODUCER, NONEMPTY, NULL));
+    ZAULINTE_CHECK(zaulinte_enter(&m, PRODUCER));
+    ZAULINTE_CHECK(zaulinte_signal_leave(&m, PRODUCER, FULL, NULL));
 }
 int main(int argc, char **argv) {
-    pthread_t consumer;
-    ZAULINTE_CHECK(zaulinte_make(&m, PLACES, CONDITIONS, 0));
-    zaulinte_check(&m, inv, rest, ready, &store);
-    pthread_create(&consumer, NULL, consumes, NULL);
-    while (!waits) sched_yield();
-    ZAULINTE_CHECK(zaulinte_enter(&m, PRODUCER)); /* the consumer waits now, since it was inside */
-    produces(argc > 1 ? argv[1] : "none");
-    pthread_join(consumer, NULL);
+    const char *fault = argc > 1 ? argv[1] : "none";
+    bool is_null = !strcmp(fault, "null");
+    pthread_t ids[PRODUCER];
+    ZAULINTE_CHECK(zaulinte_make(&m, PLACES, CONDITIONS, MESA));
+    zaulinte_check(&m, is_null ? NULL : inv, is_null ? NULL : rest, is_null ? NULL : ready, &store);
+    for (uint32_t k = CONSUMER; k < PRODUCER; k++) ids[k] = waiter(k);
+    ZAULINTE_CHECK(zaulinte_enter(&m, PRODUCER));
+    is_refused();
+    if (strcmp(fault, "none") && !is_null) ZAULINTE_CHECK(errs(fault));
+    produces();
+    for (uint32_t k = CONSUMER; k < PRODUCER; k++) pthread_join(ids[k], NULL);
     ZAULINTE_CHECK(zaulinte_free(&m));
     return store.items;
 }

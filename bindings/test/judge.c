@@ -57,10 +57,10 @@ static bool is_in(const list *l, unsigned place) {
         if (l->at[i].place == place) return true;
     return false;
 }
-static bool is_outside(unsigned place) {
-    bool away = place == inside || is_in(&signallers, place) || is_in(&called, place);
-    for (unsigned c = 0; c < conditions; c++) away = away || is_in(&waiting[c], place);
-    return !away;
+static bool waits(unsigned place) {
+    bool is = false;
+    for (unsigned c = 0; c < conditions; c++) is = is || is_in(&waiting[c], place);
+    return is;
 }
 static void given_up(void) {
     inside = NOBODY;
@@ -81,7 +81,7 @@ static void acts(unsigned k, number d) {
 static void comes(unsigned k, char what, number d) {
     must(inside == NOBODY, "two places are inside");
     must(due.what == what, what == 'a' ? "a place entered before a place that was due" : "this place wasn't due");
-    must(what == 'a' ? is_outside(k) : due.who.place == k, "another place was due");
+    must(what == 'a' ? !waits(k) : due.who.place == k, "another place was due");
     must(d == data, "the data aren't as they were left");
     inside = k;
 }

@@ -1,14 +1,18 @@
 /* Tests the codes of the monitor's calls that the stress doesn't cause: sizes, alignment, an allocation that fails,
- * texts; and threads that are cancelled while they wait. Its own rattle_alloc fails at will, and counts the memory that
- * is kept. */
+ * texts; and, one by one, what a thread does that sleeps: it is woken by each act that leaves the monitor free, sleeps
+ * once for each wait, and still sleeps if it is cancelled. Its own rattle_alloc fails at will, and counts the memory
+ * that is kept. counting_port.h counts what the port does; with it, threads don't poll. */
 #define _GNU_SOURCE
 #include "zaulinte_monitor.h"
 #include <inttypes.h>
 #include <pthread.h>
 #include <sched.h>
 #include <time.h>
+#include <unistd.h>
 
 enum { WAITER, OTHER, PLACES };
+enum { MOST_SLEEPS = 20 }; /* of one wait: a port may return early, now and then */
+_Atomic unsigned port_bells, port_objects, port_sleeps;
 struct tried {
     bool is;
     void *at;
@@ -37,24 +41,47 @@ static void is(int line, const char *call, uint64_t found, uint64_t wanted) {
 #define IS(call, wanted) is(__LINE__, #call, (call), (wanted))
 
 static zaulinte_monitor m;
+static void keeps_nothing(void) {
+    IS(kept, 0);
+    IS(port_bells, 0);
+    IS(port_objects, 0);
+}
+/* each act by a place that no monitor has */
+static void by_no_place(uint32_t place) {
+    uint64_t number;
+    IS(zaulinte_enter(&m, place), ZAULINTE_NO_PLACE);
+    IS(zaulinte_try_enter(&m, place), ZAULINTE_NO_PLACE);
+    IS(zaulinte_leave(&m, place), ZAULINTE_NO_PLACE);
+    IS(zaulinte_wait(&m, place, 0, 0), ZAULINTE_NO_PLACE);
+    IS(zaulinte_signal(&m, place, 0, NULL), ZAULINTE_NO_PLACE);
+    IS(zaulinte_signal_leave(&m, place, 0, NULL), ZAULINTE_NO_PLACE);
+    IS(zaulinte_notify(&m, place, 0, NULL), ZAULINTE_NO_PLACE);
+    IS(zaulinte_broadcast(&m, place, 0, NULL), ZAULINTE_NO_PLACE);
+    IS(zaulinte_queue(&m, place, 0), ZAULINTE_NO_PLACE);
+    IS(zaulinte_first(&m, place, 0, &number), ZAULINTE_NO_PLACE);
+    IS(zaulinte_count(&m, place, 0, NULL), ZAULINTE_NO_PLACE);
+}
 static void sizes(void) {
     IS(zaulinte_make(&m, 0, 1, 0), ZAULINTE_BAD_PLACES);
     IS(zaulinte_make(&m, 65, 1, 0), ZAULINTE_BAD_PLACES);
     IS(zaulinte_make(&m, 1, 0, 0), ZAULINTE_BAD_CONDITIONS);
     IS(zaulinte_make(&m, 1, 9, 0), ZAULINTE_BAD_CONDITIONS);
     IS(zaulinte_make(&m, 1, 1, 2), ZAULINTE_BAD_CONDITIONS);
-    IS(zaulinte_make((zaulinte_monitor *)((char *)&m + 16), 1, 1, 0), ZAULINTE_MISALIGNED);
+    for (int past = 8; past < 64; past += 8)
+        IS(zaulinte_make((zaulinte_monitor *)((char *)&m + past), 1, 1, 0), ZAULINTE_MISALIGNED);
     IS(zaulinte_free(&m), ZAULINTE_NO_BOOK);
+    keeps_nothing();
     IS(zaulinte_enter(&m, 0), ZAULINTE_NO_BOOK);
     IS(zaulinte_leave(&m, 0), ZAULINTE_NOT_INSIDE);
-    IS(zaulinte_enter(&m, 64), ZAULINTE_NO_PLACE);
+    by_no_place(64);
     for (uint64_t places = 1; places <= 64; places++) {
         IS(zaulinte_make(&m, places, 8, places % 9), 0);
         IS(zaulinte_make(&m, 1, 1, 0), ZAULINTE_IS_MADE);
         for (uint32_t k = 0; k < places; k++) IS(zaulinte_enter(&m, k), 0), IS(zaulinte_leave(&m, k), 0);
         if (places < 64) IS(zaulinte_enter(&m, (uint32_t)places), ZAULINTE_NO_PLACE);
+        if (places == 64) by_no_place(64), by_no_place(UINT32_MAX);
         IS(zaulinte_free(&m), 0);
-        IS(kept, 0);
+        keeps_nothing();
     }
 }
 static void places(void) {
@@ -79,6 +106,10 @@ static void places(void) {
     IS(resumed, false);
     IS(zaulinte_broadcast(&m, 0, 1, &number), 0);
     IS(number, 0);
+    IS(zaulinte_signal(&m, 0, 0, NULL), 0);
+    IS(zaulinte_notify(&m, 0, 1, NULL), 0);
+    IS(zaulinte_broadcast(&m, 0, 1, NULL), 0);
+    IS(zaulinte_count(&m, 0, 1, NULL), 0);
     IS(zaulinte_signal_leave(&m, 0, 0, NULL), 0);
     IS(zaulinte_leave(&m, 0), ZAULINTE_NOT_INSIDE);
     IS(zaulinte_free(&m), 0);
@@ -93,11 +124,11 @@ static void memory(void) {
         fails_after = NEVER;
         if (!code) break;
         IS(code, ZAULINTE_NO_MEMORY);
-        IS(kept, 0);
+        keeps_nothing();
     }
     IS(n > 3, true);
     IS(zaulinte_free(&m), 0);
-    IS(kept, 0);
+    keeps_nothing();
     zaulinte_monitor *own = zaulinte_new(64, 8, 0, NULL);
     IS(own != NULL && zaulinte_enter(own, 63) == 0, true);
     IS(zaulinte_delete(own), ZAULINTE_IN_USE);
@@ -105,12 +136,90 @@ static void memory(void) {
     IS(zaulinte_delete(own), 0);
     IS(zaulinte_new(0, 1, 0, &code) == NULL, true);
     IS(code, ZAULINTE_BAD_PLACES);
-    IS(kept, 0);
+    keeps_nothing();
+}
+static void text_is(uint64_t code, uint64_t number, const char *text) {
+    IS(code, number);
+    if (!strcmp(zaulinte_text(code), text)) return;
+    fprintf(stderr, "monitor.c: the text of %" PRIu64 " is \"%s\" and not \"%s\"\n", number, zaulinte_text(code), text);
+    exit(1);
 }
 static void texts(void) {
-    for (uint64_t a = ZAULINTE_NO_PLACE; a <= ZAULINTE_HEAD_NO_ANSWER; a++)
-        for (uint64_t b = ZAULINTE_NO_PLACE; b < a; b++)
-            IS(zaulinte_text(a) == zaulinte_text(b), a == ZAULINTE_DOOR_NONE_LEFT && b == ZAULINTE_DOOR_NOT_AWAY);
+#define CODE(number, name, text) text_is(ZAULINTE_##name, number, text);
+#include "codes.h"
+    text_is(ZAULINTE_DOOR_NOT_AWAY, 113, "no code of a monitor");
+}
+
+static void sleeps_a_little(void) { nanosleep(&(struct timespec){0, 20000000}, NULL); }
+/* Returns once another thread sleeps, or is about to. */
+static void until_asleep(void) {
+    while (!port_sleeps) sched_yield();
+    sleeps_a_little();
+}
+/* each act that leaves the monitor free wakes a thread that waits to enter */
+enum { LEAVES, SIGNALS_NOBODY, WAITS, ACTS };
+static void *enters(void *resumes) {
+    bool resumed;
+    ZAULINTE_CHECK(zaulinte_enter(&m, WAITER));
+    ZAULINTE_CHECK(zaulinte_signal_leave(&m, WAITER, 0, &resumed));
+    IS(resumed, resumes != NULL);
+    return NULL;
+}
+static void wakes_entering(int act) {
+    pthread_t id;
+    IS(zaulinte_make(&m, PLACES, 1, 0), 0);
+    IS(zaulinte_enter(&m, OTHER), 0);
+    port_sleeps = 0;
+    pthread_create(&id, NULL, enters, act == WAITS ? &m : NULL);
+    until_asleep();
+    if (act == SIGNALS_NOBODY) IS(zaulinte_signal_leave(&m, OTHER, 0, NULL), 0);
+    if (act == WAITS) IS(zaulinte_wait(&m, OTHER, 0, 0), 0);
+    if (act != SIGNALS_NOBODY) IS(zaulinte_leave(&m, OTHER), 0);
+    pthread_join(id, NULL);
+    IS(zaulinte_free(&m), 0);
+}
+/* a place that waits again sleeps again, and doesn't poll; meanwhile the monitor is in use */
+static void *waits_twice(void *unused) {
+    ZAULINTE_CHECK(zaulinte_enter(&m, WAITER));
+    for (int n = 0; n < 2; n++) ZAULINTE_CHECK(zaulinte_wait(&m, WAITER, 0, 0));
+    ZAULINTE_CHECK(zaulinte_leave(&m, WAITER));
+    return unused;
+}
+static void sleeps_once_a_wait(void) {
+    bool polls = !strcmp(COUNTED, "zaulinte_port_poll.h"); /* there each sleep is a poll */
+    pthread_t id;
+    IS(zaulinte_make(&m, PLACES, 1, 0), 0);
+    pthread_create(&id, NULL, waits_twice, NULL);
+    for (int n = 0; n < 2; n++) {
+        until_asleep();
+        IS(port_sleeps <= MOST_SLEEPS || polls, true);
+        IS(zaulinte_free(&m), ZAULINTE_IN_USE);
+        port_sleeps = 0;
+        IS(zaulinte_enter(&m, OTHER), 0);
+        IS(zaulinte_signal_leave(&m, OTHER, 0, NULL), 0);
+    }
+    pthread_join(id, NULL);
+    IS(zaulinte_free(&m), 0);
+}
+/* a thread that leaves is in use until it no longer touches the monitor */
+static _Atomic bool is_inside;
+static void *leaves_last(void *of) {
+    zaulinte_monitor *own = of;
+    ZAULINTE_CHECK(zaulinte_enter(own, 0));
+    is_inside = true;
+    ZAULINTE_CHECK(zaulinte_leave(own, 0));
+    return NULL;
+}
+static void deleted_while_left(void) {
+    pthread_t id;
+    uint64_t code = ZAULINTE_IN_USE;
+    is_inside = false;
+    zaulinte_monitor *own = zaulinte_new(1, 1, 0, NULL);
+    pthread_create(&id, NULL, leaves_last, own);
+    while (!is_inside) sched_yield();
+    while (code == ZAULINTE_IN_USE) code = zaulinte_delete(own);
+    IS(code, 0);
+    pthread_join(id, NULL);
 }
 
 /* a thread that is cancelled while it waits still resumes, and ends at its next cancellation point, outside */
@@ -125,7 +234,6 @@ static void *is_cancelled(void *unused) {
     pthread_testcancel();
     return unused;
 }
-static void sleeps_a_little(void) { nanosleep(&(struct timespec){0, 20000000}, NULL); }
 static void cancelled(bool at_the_entrance) {
     pthread_t id;
     void *end = NULL;
@@ -149,11 +257,16 @@ static void cancelled(bool at_the_entrance) {
     IS(zaulinte_free(&m), 0);
 }
 int main(void) {
+    alarm(60); /* if a thread sleeps for ever */
     sizes();
     places();
     memory();
     texts();
+    for (int act = 0; act < ACTS; act++) wakes_entering(act);
+    sleeps_once_a_wait();
+    for (int n = 0; n < 200; n++) deleted_while_left();
     cancelled(false);
     cancelled(true);
+    keeps_nothing();
     return 0;
 }

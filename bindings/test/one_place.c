@@ -2,6 +2,7 @@
  * 103 while the other thread has the place, in a call or inside. one_place [VISITS].
  *
  * `visits`: each thread leaves only if it entered, and the data are right.
+ * `tries`: the same without the third thread, and by attempts: the monitor is never found taken without a refusal.
  * `misuses`: each thread makes drawn calls and ignores their codes: it ends only its own visits, and the data are
  * right. */
 #define _GNU_SOURCE
@@ -49,6 +50,19 @@ static void *visits(void *p) {
     }
     return NULL;
 }
+static void *tries(void *p) {
+    thread *t = p;
+    pthread_barrier_wait(&start);
+    while (t->entered < t->visits || !was_refused) {
+        if (counted(t, zaulinte_try_enter(&m, SHARED))) continue; /* NOT_FREE: the other thread gave the place back */
+        t->entered++;                                             /* before it left, and that isn't counted */
+        value++;
+        if (t->entered % 64 == 0) sched_yield();
+        if (t->entered % 2) ZAULINTE_CHECK(zaulinte_leave(&m, SHARED));
+        else ZAULINTE_CHECK(zaulinte_signal_leave(&m, SHARED, CONDITION, NULL));
+    }
+    return NULL;
+}
 /* a drawn call; `is_inside` is true if the thread entered and hasn't left */
 static void one_call(thread *t, bool is_inside) {
     uint64_t number, lot = draw(t) % 8;
@@ -89,37 +103,27 @@ static void *helps(void *unused) {
     }
     return unused;
 }
-static pthread_t helper;
-static uint64_t counts(thread *t, uint64_t visited) {
-    is(t[0].entered + t[1].entered == visited, "visits or data were lost");
-    is(t[0].refused + t[1].refused > 0, "no call was refused");
-    return t[0].refused + t[1].refused;
-}
-static void begins(void *(*does)(void *), uint64_t visits, thread *t) {
-    pthread_t ids[2];
+static void runs(const char *name, void *(*does)(void *), uint64_t visits, bool is_helped) {
+    pthread_t ids[2], helper;
+    thread t[2] = {{visits, 7, 0, 0, 0}, {visits, 8, 0, 0, 0}};
+    value = 0;
     is_over = was_refused = false;
     pthread_barrier_init(&start, NULL, 2);
     ZAULINTE_CHECK(zaulinte_make(&m, PLACES, 1, 0));
-    pthread_create(&helper, NULL, helps, NULL);
-    for (int k = 0; k < 2; k++) t[k] = (thread){visits, 7 + (uint64_t)k, 0, 0, 0};
+    if (is_helped) pthread_create(&helper, NULL, helps, NULL);
     for (int k = 0; k < 2; k++) pthread_create(&ids[k], NULL, does, &t[k]);
     for (int k = 0; k < 2; k++) pthread_join(ids[k], NULL);
-}
-static void ends(void) {
     is_over = true;
-    pthread_join(helper, NULL);
+    if (is_helped) pthread_join(helper, NULL);
     pthread_barrier_destroy(&start);
     ZAULINTE_CHECK(zaulinte_free(&m));
+    is(t[0].entered + t[1].entered == value, "visits or data were lost");
+    is(t[0].refused + t[1].refused > 0, "no call was refused");
+    printf("%" PRIu64 " %s, %" PRIu64 " refused\n", value, name, t[0].refused + t[1].refused);
 }
 int main(int argc, char **argv) {
     uint64_t wanted = argc > 1 ? strtoull(argv[1], NULL, 10) : 100000;
-    thread t[2];
-    begins(visits, wanted, t);
-    ends();
-    is(value >= 2 * wanted, "too few visits");
-    printf("%" PRIu64 " visits, %" PRIu64 " refused\n", value, counts(t, value));
-    value = 0;
-    begins(misuses, wanted, t);
-    ends();
-    printf("%" PRIu64 " visits by misuse, %" PRIu64 " refused\n", value, counts(t, value));
+    runs("visits", visits, wanted, true);
+    runs("visits by attempts", tries, wanted, false);
+    runs("visits by misuse", misuses, wanted, true);
 }

@@ -51,7 +51,7 @@ static void refusals() {
          [&] { (void)moved.enter(); });
     says("zaulinte: enter by place 2: there is no such place", ZAULINTE_NO_PLACE, [&] { (void)m.enter(2); });
     auto in = mine.enter();
-    says("zaulinte: try_enter by place 1: the place is inside, or another thread has it", ZAULINTE_NOT_OUTSIDE,
+    says("zaulinte: try_enter by place 1: the place isn't outside, or another thread has it", ZAULINTE_NOT_OUTSIDE,
          [&] { (void)m.try_enter(1); });
     says("zaulinte: wait by place 1 on condition 2: there is no such condition", ZAULINTE_NO_CONDITION,
          [&] { in.wait(static_cast<store::may>(2)); });

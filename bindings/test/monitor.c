@@ -189,6 +189,7 @@ static void sleeps_once_a_wait(void) {
     bool polls = !strcmp(COUNTED, "zaulinte_port_poll.h"); /* there each sleep is a poll */
     pthread_t id;
     IS(zaulinte_make(&m, PLACES, 1, 0), 0);
+    port_sleeps = 0;
     pthread_create(&id, NULL, waits_twice, NULL);
     for (int n = 0; n < 2; n++) {
         until_asleep();

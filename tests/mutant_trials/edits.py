@@ -1,7 +1,8 @@
 """The wrong bodies: edits, in the form of those of must-fail, and how they are put into a copy of the sources.
 
 An edit replaces text that occurs in one line of a file, or several such texts, one after another. `file:` is a path
-from the top, or from the crate: `src/book.rt`. `test:` is text of the line that reports the test that has to fail.
+from the top, or from the crate: `src/book.rt`. `test:` is text of the line that reports the test that has to fail, or
+the command that has to fail.
 """
 import contextlib
 import os
@@ -50,7 +51,7 @@ def write(path, text):
 
 
 def from_top(crate, file):
-    return file if file.startswith('crates/') else f'crates/{crate}/{file}'
+    return file if file.split('/')[0] in ('crates', 'bindings', 'playground') else f'crates/{crate}/{file}'
 
 
 def edit_of(path, crate):

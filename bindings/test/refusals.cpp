@@ -1,5 +1,5 @@
 // Tests what zaulinte.hpp refuses, and the texts; and its checks in a build with ZAULINTE_CHECKS: refusals [FAULT].
-// -DWRONG_ENUM=1 and 2 don't compile.
+// -DMUST_NOT_BUILD=1, 2 ..: no such case compiles, and the compiler prints what the line of the case says.
 #include "zaulinte.hpp"
 #include <cstdio>
 #include <cstdlib>
@@ -15,13 +15,28 @@ class store {
 };
 using monitor = zaulinte::monitor<store, store::may, store::is>;
 using inside = monitor::inside;
-#ifdef WRONG_ENUM
-#if WRONG_ENUM == 1
+using place = zaulinte::place<monitor>;
+ZAULINTE_CONDITIONS(eight, a, b, c, d, e, f, g, h);
+
+#if MUST_NOT_BUILD == 1 // says: a condition has a value of its own
 ZAULINTE_CONDITIONS(wrong, one = 1);
-#else
+#elif MUST_NOT_BUILD == 2 // says: a condition has a value of its own
+ZAULINTE_CONDITIONS(wrong, one, );
+#elif MUST_NOT_BUILD == 3 // says: call to.*zaulinte_names
 enum class wrong { one };
-#endif
 zaulinte::monitor<int, wrong> none{1};
+#elif MUST_NOT_BUILD == 4 // says: no condition
+zaulinte::monitor<int, zaulinte::no_conditions> none{1};
+#elif MUST_NOT_BUILD == 5 // says: at most 8 conditions
+zaulinte::monitor<int, eight, store::is> none{1};
+#elif MUST_NOT_BUILD == 6 // says: ignoring return value
+void ignores(monitor &m) { m.enter(0); }
+#elif MUST_NOT_BUILD == 7 // says: ignoring return value
+void ignores(monitor &m) { m.try_enter(0); }
+#elif MUST_NOT_BUILD == 8 // says: ignoring return value
+void ignores(place &p) { p.enter(); }
+#elif MUST_NOT_BUILD == 9 // says: ignoring return value
+void ignores(place &p) { p.try_enter(); }
 #endif
 
 template <class E, class = void> struct can_signal : std::false_type {};

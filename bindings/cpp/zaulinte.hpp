@@ -225,7 +225,11 @@ template <class T, class C, class M = no_conditions> class monitor {
         }
 
         // Returns true if a place waits on the condition (a notified place doesn't).
-        template <class E> bool queue(E c) { return count(c) > 0; }
+        template <class E> bool queue(E c) {
+            std::uint64_t some = zaulinte_queue(holds("queue"), number, at(c));
+            must(some > 1 ? some : 0, "queue", number, c);
+            return some == 1;
+        }
         // Returns the number of places that wait on the condition.
         template <class E> std::uint64_t count(E c) {
             std::uint64_t many = 0;

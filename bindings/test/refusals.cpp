@@ -103,6 +103,7 @@ static const call calls[] = {
     {"signal_leave", true, [](inside &in) { in.signal_leave(no_may); }},
     {"notify", true, [](inside &in) { in.notify(no_is); }},
     {"broadcast", true, [](inside &in) { in.broadcast(no_is); }},
+    {"queue", true, [](inside &in) { in.queue(no_may); }},
     {"count", true, [](inside &in) { in.count(no_may); }},
     {"first", true, [](inside &in) { in.first(no_may); }},
     {"->", false, [](inside &in) { in->items++; }},

@@ -76,7 +76,7 @@ struct reason {
 };
 constexpr reason bad_places{ZAULINTE_BAD_PLACES, "a monitor has 1 to 64 places"},
     no_place{ZAULINTE_NO_PLACE, "there is no such place"},
-    not_outside{ZAULINTE_NOT_OUTSIDE, "the place is inside, or another thread has it"},
+    not_outside{ZAULINTE_NOT_OUTSIDE, "the place isn't outside, or another thread has it"},
     not_inside{ZAULINTE_NOT_INSIDE, "the place isn't inside"},
     no_condition{ZAULINTE_NO_CONDITION, "there is no such condition"};
 template <class F> static void is_refused(const std::string &call, reason why, F f) {

@@ -98,7 +98,7 @@ template <class T, class C, class M = no_conditions> class monitor {
         std::string on = n < zaulinte_names(c).count() ? zaulinte_names(c).name(n) : std::to_string(n);
         throw refused(code, std::string(call) + " by place " + std::to_string(place) + " on condition " + on);
     }
-    // Lets the place leave, in a destructor. The place is inside, so this isn't refused.
+    // Lets the place leave, in a destructor. The place is inside, so only a call of another thread is refused.
     void leaves(unsigned place) noexcept {
         if (zaulinte_leave(&m, place)) std::terminate();
     }
@@ -164,7 +164,8 @@ template <class T, class C, class M = no_conditions> class monitor {
     }
 
   public:
-    // A place that is inside, with access to the data. Its destructor leaves.
+    // A place that is inside, with access to the data. Its destructor leaves. If a thread that doesn't have the place
+    // destroys it, the program is terminated.
     class inside {
         monitor *of;
         unsigned number;
@@ -224,7 +225,11 @@ template <class T, class C, class M = no_conditions> class monitor {
         }
 
         // Returns true if a place waits on the condition (a notified place doesn't).
-        template <class E> bool queue(E c) { return count(c) > 0; }
+        template <class E> bool queue(E c) {
+            std::uint64_t some = zaulinte_queue(holds("queue"), number, at(c));
+            must(some > 1 ? some : 0, "queue", number, c);
+            return some == 1;
+        }
         // Returns the number of places that wait on the condition.
         template <class E> std::uint64_t count(E c) {
             std::uint64_t many = 0;

@@ -1,27 +1,43 @@
 // Tests what zaulinte.hpp refuses, and the texts; and its checks in a build with ZAULINTE_CHECKS: refusals [FAULT].
-// -DWRONG_ENUM=1 and 2 don't compile.
+// -DMUST_NOT_BUILD=1, 2 ..: no such case compiles, and the compiler prints what the line of the case says.
 #include "zaulinte.hpp"
 #include <cstdio>
 #include <cstdlib>
 #include <cstring>
+#include <new>
 #include <thread>
 #include <type_traits>
 
 class store {
   public:
-    ZAULINTE_CONDITIONS_IN_CLASS(may, take,put);
-    ZAULINTE_CONDITIONS_IN_CLASS(is, changed);
+    ZAULINTE_CONDITIONS_IN_CLASS(may, put,take, look); // a name after a comma, and after a space
+    ZAULINTE_CONDITIONS_IN_CLASS(is, full, changed);
     long items = 0;
 };
 using monitor = zaulinte::monitor<store, store::may, store::is>;
 using inside = monitor::inside;
-#ifdef WRONG_ENUM
-#if WRONG_ENUM == 1
+using place = zaulinte::place<monitor>;
+ZAULINTE_CONDITIONS(eight, a, b, c, d, e, f, g, h);
+
+#if MUST_NOT_BUILD == 1 // says: a condition has a value of its own
 ZAULINTE_CONDITIONS(wrong, one = 1);
-#else
+#elif MUST_NOT_BUILD == 2 // says: a condition has a value of its own
+ZAULINTE_CONDITIONS(wrong, one, );
+#elif MUST_NOT_BUILD == 3 // says: call to.*zaulinte_names
 enum class wrong { one };
-#endif
 zaulinte::monitor<int, wrong> none{1};
+#elif MUST_NOT_BUILD == 4 // says: no condition
+zaulinte::monitor<int, zaulinte::no_conditions> none{1};
+#elif MUST_NOT_BUILD == 5 // says: at most 8 conditions
+zaulinte::monitor<int, eight, store::is> none{1};
+#elif MUST_NOT_BUILD == 6 // says: ignoring return value
+void ignores(monitor &m) { m.enter(0); }
+#elif MUST_NOT_BUILD == 7 // says: ignoring return value
+void ignores(monitor &m) { m.try_enter(0); }
+#elif MUST_NOT_BUILD == 8 // says: ignoring return value
+void ignores(place &p) { p.enter(); }
+#elif MUST_NOT_BUILD == 9 // says: ignoring return value
+void ignores(place &p) { p.try_enter(); }
 #endif
 
 template <class E, class = void> struct can_signal : std::false_type {};
@@ -30,48 +46,130 @@ struct can_signal<E, std::void_t<decltype(std::declval<inside &>().signal(E{}))>
 template <class E, class = void> struct can_notify : std::false_type {};
 template <class E>
 struct can_notify<E, std::void_t<decltype(std::declval<inside &>().notify(E{}))>> : std::true_type {};
-static_assert(can_signal<store::may>::value && !can_signal<store::is>::value && !can_signal<int>::value);
-static_assert(can_notify<store::is>::value && !can_notify<store::may>::value);
-static_assert(!std::is_copy_constructible_v<inside> && !std::is_copy_constructible_v<monitor>);
+using hoare = monitor::condition_type;
+using mesa = monitor::mesa_condition_type;
+static_assert(can_signal<hoare>::value && !can_signal<mesa>::value && !can_signal<int>::value);
+static_assert(can_notify<mesa>::value && !can_notify<hoare>::value && std::is_same_v<monitor::data_type, store>);
+template <class T> constexpr bool moves = std::is_move_constructible_v<T> || std::is_move_assignable_v<T>;
+static_assert(!moves<monitor> && !moves<inside> && !std::is_convertible_v<unsigned, monitor>);
+static_assert(std::is_nothrow_move_constructible_v<place>);
+static_assert(!std::is_copy_constructible_v<place> && !std::is_move_assignable_v<place>);
+static_assert(std::is_base_of_v<std::logic_error, zaulinte::refused>);
+static_assert(zaulinte_names(zaulinte::no_conditions{}).count() == 0);
 
-template <class F> static void says(const char *text, std::uint64_t code, F f) {
+// If this is true, the next allocation fails.
+static thread_local bool fails_once = false;
+void *operator new(std::size_t size) {
+    void *at = std::exchange(fails_once, false) ? nullptr : std::malloc(size);
+    if (!at) throw std::bad_alloc();
+    return at;
+}
+void operator delete(void *at) noexcept { std::free(at); }
+void operator delete(void *at, std::size_t) noexcept { std::free(at); }
+
+static void is(bool held) {
+    if (!held) std::fputs("refusals: wrong\n", stderr), std::exit(1);
+}
+struct reason {
+    std::uint64_t code;
+    const char *text;
+};
+constexpr reason bad_places{ZAULINTE_BAD_PLACES, "a monitor has 1 to 64 places"},
+    no_place{ZAULINTE_NO_PLACE, "there is no such place"},
+    not_outside{ZAULINTE_NOT_OUTSIDE, "the place isn't outside, or another thread has it"},
+    not_inside{ZAULINTE_NOT_INSIDE, "the place isn't inside"},
+    no_condition{ZAULINTE_NO_CONDITION, "there is no such condition"};
+template <class F> static void is_refused(const std::string &call, reason why, F f) {
+    std::string text = "zaulinte: " + call + ": " + why.text;
     try {
         f();
     } catch (const zaulinte::refused &r) {
-        if (!std::strcmp(r.what(), text) && r.code() == code) return;
+        if (r.what() == text && r.code() == why.code) return;
         std::fprintf(stderr, "\"%s\", %d\n", r.what(), static_cast<int>(r.code()));
     }
-    std::fprintf(stderr, "and not \"%s\"\n", text), std::exit(1);
+    std::fprintf(stderr, "and not \"%s\"\n", text.c_str()), std::exit(1);
 }
+// The calls of a place inside. If a call has a condition, it is one that does not exist.
+constexpr auto no_may = static_cast<store::may>(3);
+constexpr auto no_is = static_cast<store::is>(3);
+struct call {
+    std::string name;
+    bool has_condition;
+    void (*on)(inside &);
+};
+static const call calls[] = {
+    {"signal", true, [](inside &in) { in.signal(no_may); }},
+    {"wait", true, [](inside &in) { in.wait(no_may); }},
+    {"signal_leave", true, [](inside &in) { in.signal_leave(no_may); }},
+    {"notify", true, [](inside &in) { in.notify(no_is); }},
+    {"broadcast", true, [](inside &in) { in.broadcast(no_is); }},
+    {"queue", true, [](inside &in) { in.queue(no_may); }},
+    {"count", true, [](inside &in) { in.count(no_may); }},
+    {"first", true, [](inside &in) { in.first(no_may); }},
+    {"->", false, [](inside &in) { in->items++; }},
+    {"*", false, [](inside &in) { (*in).items++; }},
+    {"leave", false, [](inside &in) { in.leave(); }},
+};
 static void refusals() {
-    says("zaulinte: a monitor of 65 places: a monitor has 1 to 64 places", ZAULINTE_BAD_PLACES, [] { monitor m(65); });
+    is_refused("a monitor of 65 places", bad_places, [] { monitor m(65); });
     monitor m(2);
-    zaulinte::place<monitor> moved(m, 1), mine(std::move(moved));
-    says("zaulinte: a place that was moved from: there is no such place", ZAULINTE_NO_PLACE,
-         [&] { (void)moved.enter(); });
-    says("zaulinte: enter by place 2: there is no such place", ZAULINTE_NO_PLACE, [&] { (void)m.enter(2); });
-    auto in = mine.enter();
-    says("zaulinte: try_enter by place 1: the place isn't outside, or another thread has it", ZAULINTE_NOT_OUTSIDE,
-         [&] { (void)m.try_enter(1); });
-    says("zaulinte: wait by place 1 on condition 2: there is no such condition", ZAULINTE_NO_CONDITION,
-         [&] { in.wait(static_cast<store::may>(2)); });
-    in.leave();
-    says("zaulinte: signal by place 1: the place isn't inside", ZAULINTE_NOT_INSIDE,
-         [&] { in.signal(store::may::put); });
-    says("zaulinte: -> by place 1: the place isn't inside", ZAULINTE_NOT_INSIDE, [&] { in->items++; });
-    if (zaulinte_names(store::may{}).name(0) != "take" || zaulinte_names(store::may{}).name(1) != "put") std::exit(1);
+    place moved(m, 1), mine(std::move(moved));
+    is_refused("a place that was moved from", no_place, [&] { (void)moved.enter(); });
+    is_refused("enter by place 2", no_place, [&] { (void)m.enter(2); });
+    std::unique_ptr<inside> in;
+    try {
+        fails_once = true, in = m.try_enter(0);
+    } catch (const std::bad_alloc &) {
+    }
+    is(!in && (in = mine.try_enter()) && !m.try_enter(0)); // place 0 didn't enter
+    is_refused("try_enter by place 1", not_outside, [&] { (void)m.try_enter(1); });
+    std::thread([&] {
+        is_refused("signal by place 1 on condition take", not_outside, [&] { in->signal(store::may::take); });
+    }).join();
+    for (const call &c : calls)
+        if (c.has_condition) is_refused(c.name + " by place 1 on condition 3", no_condition, [&] { c.on(*in); });
+    in->leave(); // it was inside after each refusal
+    for (const call &c : calls) is_refused(c.name + " by place 1", not_inside, [&] { c.on(*in); });
+}
+// Monitors of eight conditions of one kind, one with data that can't be copied; and the names of conditions.
+static void limits() {
+    zaulinte::monitor<int, eight> of_hoare(1, 2);
+    zaulinte::monitor<std::unique_ptr<int>, zaulinte::no_conditions, eight> of_mesa(1, std::make_unique<int>(3));
+    auto in = of_mesa.enter(0);
+    is(*of_hoare.enter(0) == 2 && **in == 3 && in.notify(eight::h) == 0);
+    auto names = zaulinte_names(store::may{});
+    is(names.name(0) == "put" && names.name(1) == "take" && names.name(2) == "look");
+}
+// Two places wait, the second without a priority, so it is first. Checks that are null hold.
+static void by_priority() {
+    constexpr auto take = store::may::take;
+    monitor m(3);
+    m.check({});
+    auto await = [&](unsigned many) {
+        while (m.enter(0).count(take) < many) std::this_thread::yield();
+    };
+    std::thread last([&] { m.enter(1).wait(take, UINT64_MAX); });
+    await(1);
+    std::thread first([&] { m.enter(2).wait(take); });
+    await(2);
+    auto in = m.enter(0);
+    is(in.first(take) == 0u && in.signal(take) && in.first(take) == UINT64_MAX && in.signal_leave(take));
+    first.join(), last.join();
 }
 
+static bool inv(const store &s) { return s.items >= 0; }
 static bool rest(const store &s, const monitor::waiting &w) {
-    return (s.items == 0 || w.count(store::may::take) == 0) && w.count(store::is::changed) == 0;
+    bool waits = w.count(store::may::take) > 0;
+    return (s.items == 0 || !waits) && w.first(store::may::take).value_or(3) == 3 && w.count(store::is::changed) == 0;
 }
 static bool ready(const store &s, store::may c, std::uint64_t priority, const monitor::waiting &w) {
     return s.items > 0 && c == store::may::take && priority == 3 && !w.first(c);
 }
-// A consumer waits, and the producer makes a fault, if there is one.
+// A consumer waits, and the producer makes a fault, if there is one. Then only the check that finds it isn't null.
 static void tested(const char *fault) {
+    auto has = [&](const char *check) { return !std::strcmp(fault, "none") || !std::strcmp(fault, check); };
     monitor m(2);
-    m.check({[](const store &s) { return s.items >= 0; }, rest, ready});
+    m.check({has("inv") ? inv : nullptr, has("rest") ? rest : nullptr, has("ready") ? ready : nullptr});
     bool waits = false;
     std::thread consumer([&] {
         auto in = m.enter(1);
@@ -92,10 +190,12 @@ static void tested(const char *fault) {
 int main(int argc, char **argv) {
     const char *fault = argc > 1 ? argv[1] : "none";
     refusals();
+    limits();
+    by_priority();
     tested(fault);
-    if (!std::strcmp(fault, "destroyed")) {
-        std::optional<monitor> m(std::in_place, 1u);
-        auto in = m->enter(0);
-        m.reset(); // a place is inside: the program is terminated
-    }
+    std::optional<monitor> m(std::in_place, 1u);
+    auto in = m->try_enter(0);
+    // Both terminate the program: the monitor is destroyed with a place inside; another thread lets that place leave.
+    if (!std::strcmp(fault, "destroyed")) m.reset();
+    if (!std::strcmp(fault, "elsewhere")) std::thread([&] { in.reset(); }).join(), std::_Exit(0);
 }

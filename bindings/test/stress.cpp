@@ -134,7 +134,6 @@ static void sweeps(monitor &m, unsigned me) {
 }
 int main(int argc, char **argv) {
     std::uint64_t wanted = argc > 1 ? std::stoull(argv[1]) : 10000, seed = argc > 2 ? std::stoull(argv[2]) : 1;
-    is_refused(ZAULINTE_BAD_PLACES, [] { monitor none(65); });
     monitor m(places + 1); // and the spare one
     std::vector<std::thread> threads;
     for (unsigned k = 0; k < workers; k++)

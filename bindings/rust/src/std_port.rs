@@ -17,7 +17,9 @@ impl StdPort {
     }
 }
 
-impl Port for StdPort {
+// SAFETY: std's mutex and condition variable run no code of the caller. Neither function panics: a poisoned lock serves,
+// and the condition variable has always the same mutex
+unsafe impl Port for StdPort {
     fn sleep_while(&self, word: &AtomicU32, is: u32) {
         let mut lock = self.locked();
         while word.load(SeqCst) == is {

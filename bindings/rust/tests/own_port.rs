@@ -18,7 +18,8 @@ fn monitor_of<P: Port>(places: usize, port: impl Fn() -> P) -> Vec<Place<P>> {
 
 struct Spin;
 
-impl Port for Spin {
+// SAFETY: no code of the caller runs in it
+unsafe impl Port for Spin {
     const POLLS: u32 = 0;
 
     fn sleep_while(&self, word: &AtomicU32, is: u32) {
@@ -37,7 +38,8 @@ impl Port for Spin {
 // Never sleeps: each `sleep_while` returns early.
 struct Early;
 
-impl Port for Early {
+// SAFETY: no code of the caller runs in it
+unsafe impl Port for Early {
     const POLLS: u32 = 64;
 
     fn sleep_while(&self, _: &AtomicU32, _: u32) {
@@ -56,7 +58,8 @@ struct Sleeper {
     wakes: bool,
 }
 
-impl Port for Sleeper {
+// SAFETY: no code of the caller runs in it
+unsafe impl Port for Sleeper {
     const POLLS: u32 = 0;
 
     fn sleep_while(&self, word: &AtomicU32, is: u32) {
@@ -181,7 +184,7 @@ fn a_panic_inside_poisons_if_the_port_says_so() {
 
 struct Panics;
 
-impl Port for Panics {
+unsafe impl Port for Panics {
     fn sleep_while(&self, _: &AtomicU32, _: u32) {
         panic!("the port");
     }

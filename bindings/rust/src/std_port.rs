@@ -17,8 +17,8 @@ impl StdPort {
     }
 }
 
-// SAFETY: std's mutex and condition variable run no code of the caller. Neither function panics: a poisoned lock serves,
-// and the condition variable has always the same mutex
+// SAFETY: std's mutex and condition variable run no code of the caller, and neither function panics: a poisoned lock is
+// taken too, and the condition variable always has the same mutex
 unsafe impl Port for StdPort {
     fn sleep_while(&self, word: &AtomicU32, is: u32) {
         let mut lock = self.locked();

@@ -38,6 +38,7 @@ fn answer(made: &mut Option<Book>, name: &str, numbers: &[u64]) -> Result<String
             return Ok("0".into());
         }
     };
+    assert_ne!(inside, Some(64));
     Ok(inside.map_or("64".into(), |place| place.to_string()))
 }
 

@@ -80,6 +80,8 @@ fine borrowed_data: let mut x = 1; let (m, mut p) = Of::new(&mut x, 1).unwrap();
     thread::scope(|s| { s.spawn(|| **p[0].enter().unwrap() += 1); });
 fine data_that_are_not_shared: let (m, mut p) = Of::new(Cell::new(0), 1).unwrap(); \
     thread::spawn(move || p[0].enter().unwrap().set(2));
+fine checks_without_mesa_conditions: fn rest(_: &u32, all: &Waiting<When>) -> bool { all.count(When::Ever) == 0 } \
+    let checks: Checks<u32, When> = Checks { rest, ..Checks::default() };
 fine a_place_unwinds: let _ = catch_unwind(move || drop(p[0].enter().unwrap())); m.is_poisoned();
 fine a_guard_unwinds: let i = p[0].enter().unwrap(); let _ = catch_unwind(|| *i); let _ = catch_unwind(move || drop(i));
 ";

@@ -201,23 +201,6 @@ fn a_panic_names_the_line_of_the_caller() {
     assert_eq!(place_of_panic(|| drop(places[0].try_enter())), here(line!()));
 }
 
-// A monitor without Mesa conditions names them nowhere.
-fn busy_checks() -> zaulinte::Checks<u32, When> {
-    fn rest(busy: &u32, waiting: &zaulinte::Waiting<When>) -> bool {
-        *busy > 0 || waiting.count(When::Ever) == 0
-    }
-    zaulinte::Checks { rest, ..zaulinte::Checks::default() }
-}
-
-#[cfg(debug_assertions)]
-#[test]
-fn a_check_names_the_line_of_the_caller() {
-    let (monitor, mut places) = Monitor::checked(0, 1, busy_checks()).unwrap();
-    let waits = place_of_panic(|| drop(places[0].enter().unwrap().wait(When::Ever, 0)));
-    assert_eq!(waits, format!("{}:{}", file!(), line!() - 1));
-    assert!(monitor.is_poisoned());
-}
-
 #[cfg(debug_assertions)]
 const CHECKS: zaulinte::Checks<u32, When, Mesa> = zaulinte::Checks {
     inv: |&data| data != 1,
@@ -233,6 +216,14 @@ const CHECKS: zaulinte::Checks<u32, When, Mesa> = zaulinte::Checks {
 };
 #[cfg(debug_assertions)]
 type Act = fn(Inside<'_, u32, When, Mesa>);
+
+#[cfg(debug_assertions)]
+#[test]
+fn a_check_names_the_line_of_the_caller() {
+    let (_monitor, mut places) = Monitor::checked(1, 1, CHECKS).unwrap();
+    let waits = place_of_panic(|| drop(places[0].enter().unwrap().wait(When::Ever, 0)));
+    assert_eq!(waits, format!("{}:{}", file!(), line!() - 1));
+}
 
 // Place 0 waits on Ever and place 2 on Other; then place 1 acts, which a check finds wrong. Returns the message.
 #[cfg(debug_assertions)]

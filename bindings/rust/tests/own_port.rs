@@ -188,10 +188,14 @@ fn a_panic_inside_poisons_if_the_port_says_so() {
 
 #[cfg(debug_assertions)]
 #[test]
-fn a_check_that_panics_poisons_whatever_the_port_says() {
-    let checks = Checks { inv: |_: &u32| panic!("in the check"), ..Checks::default() };
-    let (monitor, mut places) = Monitor::<u32, When, NoConditions, Early>::with_port(0, 1, checks, || Early).unwrap();
-    assert!(catch_unwind(move || drop(places[0].enter())).is_err() && monitor.is_poisoned());
+fn a_check_that_fails_or_panics_poisons_whatever_the_port_says() {
+    let invs: [fn(&u32) -> bool; 2] = [|_| false, |_| panic!("in the check")];
+    for inv in invs {
+        let checks = Checks { inv, ..Checks::default() };
+        let (monitor, mut places) =
+            Monitor::<u32, When, NoConditions, Early>::with_port(0, 1, checks, || Early).unwrap();
+        assert!(catch_unwind(move || drop(places[0].enter())).is_err() && monitor.is_poisoned());
+    }
 }
 
 static ASLEEP: AtomicU32 = AtomicU32::new(0); // how many threads fell asleep by the next port
@@ -229,22 +233,23 @@ fn acts_by_a_port_that_panics(act: &str) -> Place<Panics> {
             thread::yield_now();
         }
     };
-    let mut inside = if act == "signal" {
+    let mut inside = Some(if act == "signal" {
         falls_asleep();
         here.enter().unwrap()
     } else {
         let inside = here.enter().unwrap();
         falls_asleep();
         inside
-    };
+    });
     PANICS_IN.set(if act == "sleep" { "sleep_while" } else { "wake_one" });
-    let caught = catch_unwind(AssertUnwindSafe(|| match act {
-        "leave" => drop(inside),
-        "signal" => drop(inside.signal(When::NotEmpty)),
-        _ => drop(inside.wait(When::NotFull, 0)),
+    let caught = catch_unwind(AssertUnwindSafe(|| match (act, &mut inside) {
+        ("signal", Some(inside)) => drop(inside.signal(When::NotEmpty)),
+        ("sleep" | "wait", Some(inside)) => drop(inside.wait(When::NotFull, 0)),
+        (_, inside) => *inside = None,
     }));
     PANICS_IN.set("neither");
     assert!(caught.is_err());
+    std::mem::forget(inside);
     here
 }
 
@@ -252,7 +257,7 @@ fn acts_by_a_port_that_panics(act: &str) -> Place<Panics> {
 #[test]
 #[ignore = "ends the program"]
 fn acts_while_its_place_is_away() {
-    acts_by_a_port_that_panics(&std::env::var("ZAULINTE_ACT").unwrap());
+    let _place = acts_by_a_port_that_panics(&std::env::var("ZAULINTE_ACT").unwrap());
     std::process::exit(0);
 }
 

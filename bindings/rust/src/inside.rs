@@ -148,7 +148,7 @@ impl<'a, T, C: Condition, M: Condition, P: Port> Inside<'a, T, C, M, P> {
 /// How the acts release the monitor.
 impl<T, C: Condition, M: Condition, P: Port> Inside<'_, T, C, M, P> {
     pub(crate) fn own(&mut self) -> &mut Own<T> {
-        // SAFETY: this place is inside, and no other is
+        // SAFETY: this place is inside, and no other is: a port reaches no guard whose place is away
         unsafe { &mut *self.place.inner.own.get() }
     }
 
@@ -169,7 +169,7 @@ impl<T, C: Condition, M: Condition, P: Port> Inside<'_, T, C, M, P> {
 impl<T, C: Condition, M: Condition, P: Port> Deref for Inside<'_, T, C, M, P> {
     type Target = T;
     fn deref(&self) -> &T {
-        // SAFETY: this place is inside, and no other is
+        // SAFETY: as in `own`
         unsafe { &(*self.place.inner.own.get()).data }
     }
 }

@@ -45,7 +45,7 @@ impl<T, C, M, P> Inner<T, C, M, P> {
     /// Undoes `occupy`, before a step that may release the monitor.
     pub(crate) fn vacate(&self) {
         if cfg!(debug_assertions) {
-            self.occupied.store(false, Release);
+            assert!(self.occupied.swap(false, Release), "the place inside isn't known");
         }
     }
 

@@ -1,4 +1,4 @@
-//! The error of a poisoned monitor: std's, or the same without std. And what a caught panic may leave behind.
+//! The error of a poisoned monitor: std's, or the same without std. And what may be used after a caught panic.
 use crate::{Condition, Inside, Monitor, Place, Port};
 use core::panic::{RefUnwindSafe, UnwindSafe};
 

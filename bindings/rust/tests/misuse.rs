@@ -45,13 +45,13 @@ fn a_condition_past_its_count_is_refused() {
         let (_monitor, mut places) = Monitor::<(), C, M>::new((), 1).unwrap();
         catch_unwind(move || act(places[0].enter().unwrap())).is_err()
     }
-    assert!(panics::<Bad, When>(|mut inside| drop(inside.wait(Bad, 0))));
+    assert!(panics::<Bad, When>(|mut inside| assert!(!inside.queue(Bad))));
     assert!(panics::<Bad, When>(|mut inside| drop(inside.signal(Bad))));
     assert!(panics::<Bad, When>(|inside| assert!(!inside.signal_leave(Bad))));
-    assert!(panics::<Bad, When>(|mut inside| assert!(!inside.queue(Bad))));
-    assert!(panics::<When, Bad>(|mut inside| drop(inside.wait_mesa(Bad, 0))));
+    assert!(panics::<Bad, When>(|mut inside| drop(inside.wait(Bad, 0))));
     assert!(panics::<When, Bad>(|mut inside| assert!(!inside.notify(Bad))));
     assert!(panics::<When, Bad>(|mut inside| assert_eq!(inside.broadcast(Bad), 0)));
+    assert!(panics::<When, Bad>(|mut inside| drop(inside.wait_mesa(Bad, 0))));
     assert!(!panics::<When, When>(|mut inside| assert!(!inside.notify(When::Never) && !inside.queue(When::Ever))));
 }
 
@@ -188,13 +188,13 @@ fn a_panic_names_the_line_of_the_caller() {
         place_of_panic(|| act(places[0].enter().unwrap()))
     }
     let here = |line: u32| format!("{}:{line}", file!());
-    assert_eq!(line_of(|mut inside| drop(inside.wait(Bad, 0))), here(line!()));
-    assert_eq!(line_of(|mut inside| drop(inside.wait_mesa(Bad, 0))), here(line!()));
-    assert_eq!(line_of(|mut inside| drop(inside.signal(Bad))), here(line!()));
-    assert_eq!(line_of(|inside| assert!(inside.signal_leave(Bad))), here(line!()));
-    assert_eq!(line_of(|mut inside| assert!(inside.notify(Bad))), here(line!()));
-    assert_eq!(line_of(|mut inside| assert!(inside.broadcast(Bad) > 0)), here(line!()));
-    assert_eq!(line_of(|mut inside| assert!(inside.queue(Bad))), here(line!()));
+    assert_eq!(line_of(|mut inside| _ = inside.queue(Bad)), here(line!()));
+    assert_eq!(line_of(|mut inside| _ = inside.signal(Bad)), here(line!()));
+    assert_eq!(line_of(|inside| _ = inside.signal_leave(Bad)), here(line!()));
+    assert_eq!(line_of(|mut inside| _ = inside.wait(Bad, 0)), here(line!()));
+    assert_eq!(line_of(|mut inside| _ = inside.notify(Bad)), here(line!()));
+    assert_eq!(line_of(|mut inside| _ = inside.broadcast(Bad)), here(line!()));
+    assert_eq!(line_of(|mut inside| _ = inside.wait_mesa(Bad, 0)), here(line!()));
     let (_monitor, mut places) = Monitor::<u32, When>::new(0, 1).unwrap();
     std::mem::forget(places[0].enter().unwrap());
     assert_eq!(place_of_panic(|| drop(places[0].enter())), here(line!()));
@@ -252,7 +252,7 @@ fn message_of(data: u32, act: Act) -> String {
 #[cfg(debug_assertions)]
 #[test]
 fn a_check_names_the_act_and_poisons() {
-    let rows: [(u32, Act, &str); 13] = [
+    let rows: [(u32, Act, &str); 14] = [
         (1, |i| drop(i), "`inv` doesn't hold when place 1 leaves"),
         (1, |mut i| drop(i.wait(When::Ever, 0)), "`inv` doesn't hold when place 1 waits on Ever"),
         (1, |mut i| drop(i.wait_mesa(Mesa::Other, 0)), "`inv` doesn't hold when place 1 waits on Other"),
@@ -261,6 +261,7 @@ fn a_check_names_the_act_and_poisons() {
         (1, |mut i| drop(i.signal(When::Never)), "`inv` doesn't hold when place 1 leaves"), // a signal to no place
         (2, |i| drop(i), "`rest` doesn't hold when place 1 leaves, and there wait: {Ever: 1 of 7, Other: 1 of 5}"),
         (2, |mut i| drop(i.wait(When::Never, 0)), "`rest` doesn't hold when place 1 waits on Never"),
+        (3, |mut i| drop(i.wait(When::Never, 4)), "1 Some(7) 1, {Ever: 1 of 7, Never: 1 of 4, Other: 1 of 5}"),
         (3, |mut i| drop(i.wait(When::Ever, 9)), "2 Some(7) 1, {Ever: 2 of 7, Other: 1 of 5}"),
         (3, |mut i| drop(i.wait_mesa(Mesa::Other, 3)), "1 Some(7) 2, {Ever: 1 of 7, Other: 2 of 3}"),
         (4, |mut i| drop(i.signal(When::Ever)), "`ready` of Ever doesn't hold at the signal of place 1"),
@@ -270,4 +271,21 @@ fn a_check_names_the_act_and_poisons() {
     for (data, act, message) in rows {
         assert_eq!(message_of(data, act).replace(" of least priority ", " of "), message);
     }
+}
+
+#[cfg(debug_assertions)]
+#[test]
+fn a_check_shows_a_condition_without_a_name_by_its_index() {
+    #[derive(Clone, Copy, Debug)]
+    struct Plain;
+    impl zaulinte::Condition for Plain {
+        const COUNT: usize = 1;
+        fn index(self) -> usize {
+            0
+        }
+    }
+    let checks = zaulinte::Checks { rest: |_, all| panic!("{all:?}"), ..zaulinte::Checks::default() };
+    let (_monitor, mut places) = Monitor::<(), When, Plain>::checked((), 1, checks).unwrap();
+    let panics = catch_unwind(move || drop(places[0].enter().unwrap().wait_mesa(Plain, 7)));
+    assert_eq!(panics.unwrap_err().downcast_ref::<String>().unwrap(), "{2: 1 of least priority 7}");
 }

@@ -13,42 +13,13 @@ use core::sync::atomic::Ordering::Relaxed;
 /// A place inside the monitor: the guard by which the data are used. The place leaves when it is dropped; if the thread
 /// is unwinding from a panic that began inside, that also poisons the monitor.
 ///
-/// Two acts at once can't be written, since an act needs the guard alone:
-///
-/// ```compile_fail,E0499
-/// # use zaulinte::{conditions, Monitor};
-/// # conditions! { enum When { Ever } }
-/// let (_monitor, mut places) = Monitor::<u32, When>::new(0, 1).unwrap();
-/// let first = places[0].enter().unwrap();
-/// let second = places[0].enter().unwrap();
-/// drop((first, second));
-/// ```
-///
-/// Nor can a reference to the data be kept over a wait:
-///
-/// ```compile_fail,E0499
-/// # use zaulinte::{conditions, Monitor};
-/// # conditions! { enum When { Ever } }
-/// let (_monitor, mut places) = Monitor::<u32, When>::new(0, 1).unwrap();
-/// let mut inside = places[0].enter().unwrap();
-/// let kept: &mut u32 = &mut inside;
-/// inside.wait(When::Ever, 0).unwrap();
-/// *kept = 1;
-/// ```
-///
-/// A guard doesn't move to another thread:
-///
-/// ```compile_fail,E0277
-/// # use zaulinte::{conditions, Monitor};
-/// # conditions! { enum When { Ever } }
-/// let (_monitor, mut places) = Monitor::<u32, When>::new(0, 1).unwrap();
-/// let inside = places[0].enter().unwrap();
-/// std::thread::scope(|s| { s.spawn(move || drop(inside)); });
-/// ```
+/// A guard doesn't move to another thread. An act needs the guard alone: so two acts at once don't compile, nor does a
+/// reference to the data that is kept over a wait.
 ///
 /// # Panics
 /// An act panics if a condition's index isn't below its enum's `COUNT`, and in a debug build if a check of
 /// [`Checks`](crate::Checks) fails.
+#[must_use = "the place leaves at once if the guard is unused"]
 pub struct Inside<'a, T, C: Condition, M: Condition = NoConditions, P: Port = DefaultPort> {
     pub(crate) place: &'a mut Place<T, C, M, P>,
     panicked: bool, // before it entered
@@ -177,7 +148,7 @@ impl<'a, T, C: Condition, M: Condition, P: Port> Inside<'a, T, C, M, P> {
 /// How the acts release the monitor.
 impl<T, C: Condition, M: Condition, P: Port> Inside<'_, T, C, M, P> {
     pub(crate) fn own(&mut self) -> &mut Own<T> {
-        // SAFETY: this place is inside, and no other is
+        // SAFETY: this place is inside, and no other is: a port reaches no guard whose place is away
         unsafe { &mut *self.place.inner.own.get() }
     }
 
@@ -198,7 +169,7 @@ impl<T, C: Condition, M: Condition, P: Port> Inside<'_, T, C, M, P> {
 impl<T, C: Condition, M: Condition, P: Port> Deref for Inside<'_, T, C, M, P> {
     type Target = T;
     fn deref(&self) -> &T {
-        // SAFETY: this place is inside, and no other is
+        // SAFETY: as in `own`
         unsafe { &(*self.place.inner.own.get()).data }
     }
 }

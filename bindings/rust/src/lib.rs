@@ -19,6 +19,7 @@ mod port;
 mod refused;
 #[cfg(feature = "std")]
 mod std_port;
+mod sync;
 
 pub use checks::{Checks, Waiting};
 pub use conditions::{Condition, NoConditions};

@@ -45,7 +45,7 @@ impl<T, C, M, P> Inner<T, C, M, P> {
     /// Undoes `occupy`, before a step that may release the monitor.
     pub(crate) fn vacate(&self) {
         if cfg!(debug_assertions) {
-            self.occupied.store(false, Release);
+            assert!(self.occupied.swap(false, Release), "the place inside isn't known");
         }
     }
 
@@ -68,13 +68,7 @@ impl<T, C, M, P> Inner<T, C, M, P> {
 ///
 /// If the monitor is dropped while places are left, they keep what they share, and continue to work.
 ///
-/// Data that may not move to another thread are refused:
-///
-/// ```compile_fail,E0599
-/// # use zaulinte::{conditions, Monitor};
-/// # conditions! { enum When { Ever } }
-/// let _ = Monitor::<std::rc::Rc<u32>, When>::new(std::rc::Rc::new(0), 1);
-/// ```
+/// A monitor of data that mustn't move to another thread, an `Rc` say, doesn't compile.
 pub struct Monitor<T, C, M = NoConditions, P = DefaultPort>(Arc<Inner<T, C, M, P>>);
 
 /// A place of a monitor: the thread that owns the place may enter. A place moves between threads, and can't be copied.
@@ -182,6 +176,7 @@ impl<T: Send, C: Condition, M: Condition, P: Port> Place<T, C, M, P> {
     ///
     /// # Panics
     /// If the place is inside, since an earlier guard was forgotten (`mem::forget`).
+    #[must_use = "the place leaves at once if the guard is unused"]
     #[track_caller]
     pub fn try_enter(&mut self) -> Option<LockResult<Inside<'_, T, C, M, P>>> {
         self.must_be_outside();

@@ -23,11 +23,12 @@
 //! may wake no thread.)
 use crate::door::{Next, Seat};
 use crate::refused::room_for;
+use crate::sync::AtomicU32;
 use crate::{Port, Refused};
 use alloc::vec::Vec;
 use core::hint::spin_loop;
 use core::iter::successors;
-use core::sync::atomic::{AtomicU32, Ordering::Acquire, Ordering::SeqCst};
+use core::sync::atomic::{Ordering::Acquire, Ordering::SeqCst};
 
 const NOTHING: u32 = 0;
 const OWED: u32 = 1;

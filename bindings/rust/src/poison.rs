@@ -1,10 +1,20 @@
-//! The error of a poisoned monitor: std's, or the same without std.
+//! The error of a poisoned monitor: std's, or the same without std. And what may be used after a caught panic.
+use crate::{Condition, Inside, Monitor, Place, Port};
+use core::panic::{RefUnwindSafe, UnwindSafe};
 
 #[cfg(feature = "std")]
 pub use std::sync::{LockResult, PoisonError};
 
 #[cfg(not(feature = "std"))]
 pub use own::{LockResult, PoisonError};
+
+// as with std's mutex: a thread that uses the data after a panic hears of the panic first
+impl<T, C, M, P> UnwindSafe for Monitor<T, C, M, P> {}
+impl<T, C, M, P> RefUnwindSafe for Monitor<T, C, M, P> {}
+impl<T, C, M, P: Port> UnwindSafe for Place<T, C, M, P> {}
+impl<T, C, M, P: Port> RefUnwindSafe for Place<T, C, M, P> {}
+impl<T, C: Condition, M: Condition, P: Port> UnwindSafe for Inside<'_, T, C, M, P> {}
+impl<T, C: Condition, M: Condition, P: Port> RefUnwindSafe for Inside<'_, T, C, M, P> {}
 
 #[cfg(not(feature = "std"))]
 mod own {

@@ -9,9 +9,6 @@ use core::sync::atomic::AtomicU32;
 /// that wait to enter. The value has what the platform needs there: std's has a mutex and a condition variable; one
 /// over futexes needs nothing.
 ///
-/// A port that doesn't wake makes threads sleep for ever. Nothing that a port does lets two places be inside at once.
-/// A port doesn't panic: in [`sleep_while`](Port::sleep_while) of a place that is away, that ends the program.
-///
 /// A port that spins, for threads that each have a processor of their own:
 ///
 /// ```
@@ -20,7 +17,8 @@ use core::sync::atomic::AtomicU32;
 /// conditions! { enum When { Ever } }
 ///
 /// struct Spin;
-/// impl Port for Spin {
+/// // SAFETY: the functions spin and read the word, and do nothing else
+/// unsafe impl Port for Spin {
 ///     const POLLS: u32 = 0; // `sleep_while` polls itself
 ///     fn sleep_while(&self, word: &AtomicU32, is: u32) {
 ///         while word.load(SeqCst) == is {
@@ -36,7 +34,21 @@ use core::sync::atomic::AtomicU32;
 /// assert_eq!(*places[1].enter().unwrap(), 1);
 /// # Ok::<(), zaulinte::Refused>(())
 /// ```
-pub trait Port: Send + Sync {
+///
+/// # Safety
+/// While [`sleep_while`](Port::sleep_while) or [`wake_one`](Port::wake_one) runs, the calling thread's place may be
+/// away and another place inside, and the calling thread's guard [`Inside`](crate::Inside) is still alive. So neither
+/// function runs code that could reach that guard:
+///
+/// - It doesn't panic: a panic runs the panic hook, and then the caller's destructors. (If it unwinds while the place
+///   is away, the monitor ends the program.)
+/// - It ends neither the thread nor the program in a way that runs destructors: `std::process::exit` runs those of
+///   thread locals, `std::process::abort` doesn't.
+/// - It doesn't write the word: a thread that finds a wrong value there panics while its place is away.
+///
+/// When a port lets a thread sleep, and which thread it wakes, isn't a matter of safety but of progress: if it doesn't
+/// wake a thread, that thread sleeps for ever.
+pub unsafe trait Port: Send + Sync {
     /// For how many spin hints a thread polls before it sleeps: its place's own word if the place is away; an entering
     /// thread tries again after 1, 2, 4 .. hints, up to so many. 0 on a single processor.
     const POLLS: u32 = 500;
@@ -65,8 +77,9 @@ pub type DefaultPort = crate::StdPort;
 #[derive(Clone, Copy, Debug)]
 pub enum DefaultPort {}
 
+// SAFETY: there is no value of it
 #[cfg(not(feature = "std"))]
-impl Port for DefaultPort {
+unsafe impl Port for DefaultPort {
     fn sleep_while(&self, _: &AtomicU32, _: u32) {
         match *self {}
     }

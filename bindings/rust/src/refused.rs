@@ -59,7 +59,7 @@ impl fmt::Display for Refused {
         f.write_str(match self {
             Refused::NoPlace => "there is no such place",
             Refused::NotFree => "the monitor isn't free",
-            Refused::NotOutside => "the place waits",
+            Refused::NotOutside => "the place isn't outside, or another thread has it",
             Refused::NotInside => "the place isn't inside",
             Refused::NoCondition => "there is no such condition",
             Refused::WrongKind => "the condition is of the other kind",

@@ -1,7 +1,8 @@
 //! Sleeping by std's mutex and condition variable.
+use crate::sync::Condvar;
 use crate::Port;
 use core::sync::atomic::{AtomicU32, Ordering::SeqCst};
-use std::sync::{Condvar, Mutex, MutexGuard, PoisonError};
+use std::sync::{Mutex, MutexGuard, PoisonError};
 use std::thread;
 
 /// The port of std: threads sleep on a condition variable.
@@ -17,7 +18,12 @@ impl StdPort {
     }
 }
 
-impl Port for StdPort {
+// SAFETY: std's mutex and condition variable run no code of the caller, and neither function panics: a poisoned lock is
+// taken too, and the condition variable always has the same mutex
+unsafe impl Port for StdPort {
+    #[cfg(zaulinte_races)]
+    const POLLS: u32 = 0;
+
     fn sleep_while(&self, word: &AtomicU32, is: u32) {
         let mut lock = self.locked();
         while word.load(SeqCst) == is {

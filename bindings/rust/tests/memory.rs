@@ -181,3 +181,35 @@ fn a_place_whose_guard_was_forgotten_leaves_as_it_is_dropped_and_loses_nothing()
     };
     assert_eq!(taken_by(forgets), []);
 }
+
+#[repr(C)]
+struct Tried {
+    is: bool,
+    at: *mut u8,
+}
+
+extern "C" {
+    fn rattle_alloc(bytes: usize, align: usize) -> Tried;
+    fn rattle_dealloc(at: *mut u8);
+}
+
+#[test]
+fn the_archive_s_memory_is_aligned_or_refused() {
+    let takes = |bytes: usize, align: usize| {
+        // SAFETY: the size isn't 0, and what is given back was given
+        unsafe {
+            let tried = rattle_alloc(bytes, align);
+            if !tried.is {
+                return false;
+            }
+            assert_eq!(tried.at as usize % align, 0);
+            tried.at.write_bytes(7, bytes);
+            rattle_dealloc(tried.at);
+            true
+        }
+    };
+    for bytes in [1, 15, 16, 17, 4096] {
+        assert_eq!(taken_by(|| assert!([1, 2, 4, 8, 16].iter().all(|&align| takes(bytes, align)))), []);
+        assert!(!takes(bytes, 32) && !takes(usize::MAX - bytes + 1, 1));
+    }
+}

@@ -1,9 +1,11 @@
 //! What is refused, the state that a panic leaves, and what a check reports.
 use std::panic::{catch_unwind, AssertUnwindSafe};
+use std::sync::PoisonError;
 use std::thread;
 use zaulinte::{conditions, Inside, Monitor, NoConditions, Place, Refused};
 
 conditions! { enum When { Ever, Never } }
+conditions! { enum Mesa { Other } }
 conditions! { enum Five { A, B, C, D, E } }
 
 fn is_send<X: Send>() {}
@@ -41,54 +43,81 @@ impl zaulinte::Condition for Bad {
 fn a_condition_past_its_count_is_refused() {
     fn panics<C: zaulinte::Condition, M: zaulinte::Condition>(act: fn(Inside<'_, (), C, M>)) -> bool {
         let (_monitor, mut places) = Monitor::<(), C, M>::new((), 1).unwrap();
-        catch_unwind(AssertUnwindSafe(|| act(places[0].enter().unwrap()))).is_err()
+        catch_unwind(move || act(places[0].enter().unwrap())).is_err()
     }
-    assert!(panics::<Bad, When>(|mut inside| drop(inside.wait(Bad, 0))));
+    assert!(panics::<Bad, When>(|mut inside| assert!(!inside.queue(Bad))));
     assert!(panics::<Bad, When>(|mut inside| drop(inside.signal(Bad))));
     assert!(panics::<Bad, When>(|inside| assert!(!inside.signal_leave(Bad))));
-    assert!(panics::<Bad, When>(|mut inside| assert!(!inside.queue(Bad))));
-    assert!(panics::<When, Bad>(|mut inside| drop(inside.wait_mesa(Bad, 0))));
+    assert!(panics::<Bad, When>(|mut inside| drop(inside.wait(Bad, 0))));
     assert!(panics::<When, Bad>(|mut inside| assert!(!inside.notify(Bad))));
     assert!(panics::<When, Bad>(|mut inside| assert_eq!(inside.broadcast(Bad), 0)));
+    assert!(panics::<When, Bad>(|mut inside| drop(inside.wait_mesa(Bad, 0))));
     assert!(!panics::<When, When>(|mut inside| assert!(!inside.notify(When::Never) && !inside.queue(When::Ever))));
 }
 
 #[test]
 fn a_panic_inside_poisons_and_leaves() {
     let (monitor, mut places) = Monitor::<u32, When>::new(1, 2).unwrap();
-    let panicked = catch_unwind(AssertUnwindSafe(|| {
-        let mut inside = places[0].enter().unwrap();
+    let (mut there, mut here) = (places.pop().unwrap(), places.pop().unwrap());
+    let panics = move || {
+        let mut inside = here.enter().unwrap();
         *inside = 2;
         panic!("inside");
-    }));
-    assert!(panicked.is_err() && monitor.is_poisoned());
-    assert_eq!(places[1].enter().map(|inside| *inside).unwrap_err().into_inner().to_owned(), 2);
+    };
+    assert!(catch_unwind(panics).is_err() && monitor.is_poisoned());
+    assert_eq!(there.enter().map(|inside| *inside).unwrap_err().into_inner().to_owned(), 2);
     monitor.clear_poison();
-    assert_eq!(*places[0].enter().unwrap(), 2);
-    drop(places);
+    assert_eq!(*there.enter().unwrap(), 2);
+    drop(there);
     assert_eq!(monitor.into_inner().unwrap().unwrap(), 2);
 }
 
 #[test]
-fn who_waits_hears_of_a_panic() {
-    let (_monitor, mut places) = Monitor::<bool, When>::new(false, 2).unwrap();
-    let (mut here, mut there) = (places.remove(0), places.remove(0));
+fn a_guard_that_is_made_while_its_thread_unwinds_does_not_poison() {
+    struct Enters(Place<u32, When>);
+    impl Drop for Enters {
+        fn drop(&mut self) {
+            *self.0.enter().unwrap() += 1;
+        }
+    }
+    let (monitor, mut places) = Monitor::<u32, When>::new(0, 1).unwrap();
+    let enters = Enters(places.remove(0));
+    let panics = move || {
+        let _enters = enters;
+        panic!("outside");
+    };
+    assert!(catch_unwind(panics).is_err());
+    assert_eq!(monitor.into_inner().unwrap().unwrap(), 1);
+}
+
+// A place waits by `act`, another panics inside, and a third signals and notifies. Returns what `act` returned.
+fn hears_of_a_panic(act: fn(&mut Inside<'_, bool, When, Mesa>) -> bool) -> bool {
+    let (_monitor, places) = Monitor::<bool, When, Mesa>::new(false, 3).unwrap();
+    let [mut waits, mut panics, mut signals] = <[_; 3]>::try_from(places).ok().unwrap();
     let waiter = thread::spawn(move || {
-        let mut inside = there.enter().unwrap();
+        let mut inside = waits.enter().unwrap();
         *inside = true;
-        inside.wait(When::Ever, 0).is_err()
+        act(&mut inside)
     });
-    while !*here.enter().unwrap() {
+    while !*panics.enter().unwrap() {
         thread::yield_now();
     }
-    let mut panics = || {
-        let _inside = here.enter().unwrap();
+    let panics = move || {
+        let _inside = panics.enter().unwrap();
         panic!("inside");
     };
-    assert!(catch_unwind(AssertUnwindSafe(&mut panics)).is_err());
-    let inside = here.enter().unwrap_or_else(std::sync::PoisonError::into_inner);
-    assert!(inside.signal_leave(When::Ever));
-    assert!(waiter.join().unwrap());
+    assert!(catch_unwind(panics).is_err());
+    let mut inside = signals.enter().unwrap_or_else(PoisonError::into_inner);
+    inside.notify(Mesa::Other);
+    assert!(inside.signal(When::Ever).is_err());
+    drop(inside);
+    waiter.join().unwrap()
+}
+
+#[test]
+fn a_waiter_and_a_signaller_hear_of_a_panic() {
+    assert!(hears_of_a_panic(|inside| inside.wait(When::Ever, 0).is_err()));
+    assert!(hears_of_a_panic(|inside| inside.wait_mesa(Mesa::Other, 0).is_err()));
 }
 
 #[test]
@@ -97,7 +126,36 @@ fn a_forgotten_guard_is_refused() {
     std::mem::forget(places[0].enter().unwrap());
     assert!(catch_unwind(AssertUnwindSafe(|| drop(places[0].enter()))).is_err());
     assert!(places[1].try_enter().is_none());
+    let forgotten = places.remove(0);
+    thread::spawn(move || drop(forgotten)).join().unwrap();
+    assert_eq!(*places[0].enter().unwrap(), 0);
     assert!(monitor.into_inner().is_none());
+}
+
+#[test]
+fn a_place_may_be_in_the_data_of_its_own_monitor() {
+    struct Own(Option<Place<Own, When>>);
+    let (monitor, mut places) = Monitor::<Own, When>::new(Own(None), 2).unwrap();
+    let second = places.pop();
+    let mut inside = places[0].enter().unwrap();
+    inside.0 = second;
+    assert!(inside.0.as_mut().unwrap().try_enter().is_none());
+    inside.0 = None; // it goes back to its monitor while the first place is inside
+    drop(inside);
+    drop(places);
+    assert!(monitor.into_inner().unwrap().unwrap().0.is_none());
+}
+
+#[test]
+fn guards_that_are_swapped_leave_their_own_monitors() {
+    let (_one, mut ones) = Monitor::<u32, When>::new(1, 1).unwrap();
+    let (_two, mut twos) = Monitor::<u32, When>::new(2, 2).unwrap();
+    let (mut third, mut second) = (twos.pop().unwrap(), twos.pop().unwrap());
+    let (mut one, mut two) = (ones[0].enter().unwrap(), second.enter().unwrap());
+    std::mem::swap(&mut one, &mut two);
+    assert_eq!((*one, *two), (2, 1));
+    assert!(!one.signal_leave(When::Ever));
+    assert_eq!(*third.enter().unwrap(), 2);
 }
 
 #[test]
@@ -130,109 +188,104 @@ fn a_panic_names_the_line_of_the_caller() {
         place_of_panic(|| act(places[0].enter().unwrap()))
     }
     let here = |line: u32| format!("{}:{line}", file!());
-    assert_eq!(line_of(|mut inside| drop(inside.wait(Bad, 0))), here(line!()));
-    assert_eq!(line_of(|mut inside| drop(inside.wait_mesa(Bad, 0))), here(line!()));
-    assert_eq!(line_of(|mut inside| drop(inside.signal(Bad))), here(line!()));
-    assert_eq!(line_of(|inside| assert!(inside.signal_leave(Bad))), here(line!()));
-    assert_eq!(line_of(|mut inside| assert!(inside.notify(Bad))), here(line!()));
-    assert_eq!(line_of(|mut inside| assert!(inside.broadcast(Bad) > 0)), here(line!()));
-    assert_eq!(line_of(|mut inside| assert!(inside.queue(Bad))), here(line!()));
+    assert_eq!(line_of(|mut inside| _ = inside.queue(Bad)), here(line!()));
+    assert_eq!(line_of(|mut inside| _ = inside.signal(Bad)), here(line!()));
+    assert_eq!(line_of(|inside| _ = inside.signal_leave(Bad)), here(line!()));
+    assert_eq!(line_of(|mut inside| _ = inside.wait(Bad, 0)), here(line!()));
+    assert_eq!(line_of(|mut inside| _ = inside.notify(Bad)), here(line!()));
+    assert_eq!(line_of(|mut inside| _ = inside.broadcast(Bad)), here(line!()));
+    assert_eq!(line_of(|mut inside| _ = inside.wait_mesa(Bad, 0)), here(line!()));
     let (_monitor, mut places) = Monitor::<u32, When>::new(0, 1).unwrap();
     std::mem::forget(places[0].enter().unwrap());
     assert_eq!(place_of_panic(|| drop(places[0].enter())), here(line!()));
     assert_eq!(place_of_panic(|| drop(places[0].try_enter())), here(line!()));
 }
 
-// A monitor without Mesa conditions names them nowhere.
-fn busy_checks() -> zaulinte::Checks<u32, When> {
-    fn rest(busy: &u32, waiting: &zaulinte::Waiting<When>) -> bool {
-        *busy > 0 || waiting.count(When::Ever) == 0
-    }
-    zaulinte::Checks { rest, ..zaulinte::Checks::default() }
-}
+#[cfg(debug_assertions)]
+const CHECKS: zaulinte::Checks<u32, When, Mesa> = zaulinte::Checks {
+    inv: |&data| data != 1,
+    rest: |&data, all| {
+        let (count, first, mesa) = (all.count(When::Ever), all.first(When::Ever), all.count_mesa(Mesa::Other));
+        assert!(data != 3, "{count} {first:?} {mesa}, {all:?}");
+        data != 2
+    },
+    ready: |condition, priority, &data, all| {
+        assert!(data != 5, "{condition:?} {priority}, {all:?}");
+        data != 4
+    },
+};
+#[cfg(debug_assertions)]
+type Act = fn(Inside<'_, u32, When, Mesa>);
 
 #[cfg(debug_assertions)]
 #[test]
 fn a_check_names_the_line_of_the_caller() {
-    let (monitor, mut places) = Monitor::checked(0, 1, busy_checks()).unwrap();
+    let (_monitor, mut places) = Monitor::checked(1, 1, CHECKS).unwrap();
     let waits = place_of_panic(|| drop(places[0].enter().unwrap().wait(When::Ever, 0)));
     assert_eq!(waits, format!("{}:{}", file!(), line!() - 1));
-    assert!(monitor.is_poisoned());
 }
 
+// Place 0 waits on Ever and place 2 on Other; then place 1 acts, which a check finds wrong. Returns the message.
 #[cfg(debug_assertions)]
-#[test]
-fn a_forgotten_signal_is_found_at_the_leave_and_names_the_condition() {
-    let (monitor, mut places) = Monitor::checked(1, 2, busy_checks()).unwrap();
-    let (mut there, mut here) = (places.pop().unwrap(), places.pop().unwrap());
-    let waiter = thread::spawn(move || drop(there.enter().unwrap().wait(When::Ever, 7)));
-    while !here.enter().unwrap().queue(When::Ever) {
+fn message_of(data: u32, act: Act) -> String {
+    let (monitor, places) = Monitor::checked(0, 3, CHECKS).unwrap();
+    let [mut waits, mut acts, mut waits_too] = <[_; 3]>::try_from(places).ok().unwrap();
+    let waiter = thread::spawn(move || drop(waits.enter().unwrap().wait(When::Ever, 7)));
+    let mesa_waiter = thread::spawn(move || drop(waits_too.enter().unwrap().wait_mesa(Mesa::Other, 5)));
+    while acts.enter().is_ok_and(|mut inside| !inside.queue(When::Ever) || inside.count_mesa(Mesa::Other) == 0) {
         thread::yield_now();
     }
-    let fault = catch_unwind(AssertUnwindSafe(|| *here.enter().unwrap() = 0)).unwrap_err();
-    let told = "`rest` doesn't hold when place 0 leaves, and there wait: {Ever: 1 of least priority 7}";
-    assert_eq!(message(fault), told);
-    monitor.clear_poison();
-    assert!(here.enter().unwrap().signal_leave(When::Ever));
-    waiter.join().unwrap();
-}
-
-#[cfg(debug_assertions)]
-fn message(of: Box<dyn std::any::Any + Send>) -> String {
-    of.downcast_ref::<String>().cloned().unwrap_or_default()
-}
-
-#[cfg(debug_assertions)]
-#[test]
-fn checks_name_the_condition() {
-    let checks = zaulinte::Checks {
-        inv: |&s: &u32| s <= 9,
-        rest: |&s, waiting| s == 0 || waiting.count(When::Ever) == 0,
-        ready: |_, _, &s, _| s > 0,
-    };
-    let (monitor, mut places) = Monitor::<u32, When>::checked(0, 2, checks).unwrap();
-    let mut at = |act: fn(&mut Inside<'_, u32, When>)| {
-        let fault = catch_unwind(AssertUnwindSafe(|| act(&mut places[0].enter().unwrap()))).unwrap_err();
-        monitor.clear_poison();
-        message(fault)
-    };
-    assert_eq!(at(|inside| **inside = 10), "`inv` doesn't hold when place 0 leaves");
-    // the data stay as they were: 10
-    assert_eq!(at(|inside| drop(inside.wait(When::Ever, 0))), "`inv` doesn't hold when place 0 waits on Ever");
-    assert_eq!(at(|inside| **inside = 11), "`inv` doesn't hold when place 0 leaves");
-    drop(at(|inside| {
-        **inside = 1;
-        panic!("mended");
+    let acted = catch_unwind(AssertUnwindSafe(|| {
+        let mut inside = acts.enter().unwrap();
+        *inside = data;
+        act(inside);
     }));
-    assert_eq!(at(|inside| drop(inside.wait(When::Ever, 0))), "`rest` doesn't hold when place 0 waits on Ever");
+    let mut inside = acts.enter().unwrap_or_else(PoisonError::into_inner);
+    inside.notify(Mesa::Other);
+    inside.signal_leave(When::Ever);
+    let waited = waiter.join(); // `ready` is tested in its thread
+    mesa_waiter.join().unwrap();
+    assert!(monitor.is_poisoned());
+    acted.and(waited).unwrap_err().downcast_ref::<String>().cloned().unwrap()
 }
 
 #[cfg(debug_assertions)]
 #[test]
-fn a_check_that_panics_poisons_and_leaves() {
-    let checks = zaulinte::Checks { inv: |_| panic!("in the check"), ..zaulinte::Checks::default() };
-    let (monitor, mut places) = Monitor::<u32, When>::checked(0, 2, checks).unwrap();
-    let fault = catch_unwind(AssertUnwindSafe(|| drop(places[0].enter()))).unwrap_err();
-    assert_eq!(fault.downcast_ref(), Some(&"in the check"));
-    assert!(monitor.is_poisoned() && places[1].try_enter().is_some_and(|inside| inside.is_err()));
-}
-
-#[cfg(debug_assertions)]
-#[test]
-fn who_is_resumed_finds_ready_or_a_panic_names_the_signaller() {
-    let ready = |_, _, &s: &u32, _: &zaulinte::Waiting<When, NoConditions>| s == 2;
-    let checks = zaulinte::Checks { ready, ..zaulinte::Checks::default() };
-    let (_monitor, mut places) = Monitor::<u32, When>::checked(0, 2, checks).unwrap();
-    let (mut there, mut here) = (places.pop().unwrap(), places.pop().unwrap());
-    let waiter = thread::spawn(move || {
-        let mut inside = there.enter().unwrap();
-        *inside = 1;
-        drop(inside.wait(When::Never, 0));
-    });
-    while *here.enter().unwrap() == 0 {
-        thread::yield_now();
+fn a_check_names_the_act_and_poisons() {
+    let rows: [(u32, Act, &str); 14] = [
+        (1, |i| drop(i), "`inv` doesn't hold when place 1 leaves"),
+        (1, |mut i| drop(i.wait(When::Ever, 0)), "`inv` doesn't hold when place 1 waits on Ever"),
+        (1, |mut i| drop(i.wait_mesa(Mesa::Other, 0)), "`inv` doesn't hold when place 1 waits on Other"),
+        (1, |mut i| drop(i.signal(When::Ever)), "`inv` doesn't hold when place 1 signals Ever"),
+        (1, |i| assert!(i.signal_leave(When::Ever)), "`inv` doesn't hold when place 1 signals Ever"),
+        (1, |mut i| drop(i.signal(When::Never)), "`inv` doesn't hold when place 1 leaves"), // a signal to no place
+        (2, |i| drop(i), "`rest` doesn't hold when place 1 leaves, and there wait: {Ever: 1 of 7, Other: 1 of 5}"),
+        (2, |mut i| drop(i.wait(When::Never, 0)), "`rest` doesn't hold when place 1 waits on Never"),
+        (3, |mut i| drop(i.wait(When::Never, 4)), "1 Some(7) 1, {Ever: 1 of 7, Never: 1 of 4, Other: 1 of 5}"),
+        (3, |mut i| drop(i.wait(When::Ever, 9)), "2 Some(7) 1, {Ever: 2 of 7, Other: 1 of 5}"),
+        (3, |mut i| drop(i.wait_mesa(Mesa::Other, 3)), "1 Some(7) 2, {Ever: 1 of 7, Other: 2 of 3}"),
+        (4, |mut i| drop(i.signal(When::Ever)), "`ready` of Ever doesn't hold at the signal of place 1"),
+        (4, |i| assert!(i.signal_leave(When::Ever)), "`ready` of Ever doesn't hold at the signal of place 1"),
+        (5, |i| assert!(i.signal_leave(When::Ever)), "Ever 7, {Other: 1 of 5}"),
+    ];
+    for (data, act, message) in rows {
+        assert_eq!(message_of(data, act).replace(" of least priority ", " of "), message);
     }
-    assert!(here.enter().unwrap().signal_leave(When::Never));
-    let fault = message(waiter.join().unwrap_err());
-    assert_eq!(fault, "`ready` of Never doesn't hold at the signal of place 0");
+}
+
+#[cfg(debug_assertions)]
+#[test]
+fn a_check_shows_a_condition_without_a_name_by_its_index() {
+    #[derive(Clone, Copy, Debug)]
+    struct Plain;
+    impl zaulinte::Condition for Plain {
+        const COUNT: usize = 1;
+        fn index(self) -> usize {
+            0
+        }
+    }
+    let checks = zaulinte::Checks { rest: |_, all| panic!("{all:?}"), ..zaulinte::Checks::default() };
+    let (_monitor, mut places) = Monitor::<(), When, Plain>::checked((), 1, checks).unwrap();
+    let panics = catch_unwind(move || drop(places[0].enter().unwrap().wait_mesa(Plain, 7)));
+    assert_eq!(panics.unwrap_err().downcast_ref::<String>().unwrap(), "{2: 1 of least priority 7}");
 }

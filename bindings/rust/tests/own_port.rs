@@ -1,5 +1,7 @@
 //! Ports of a user, with std in the crate or without it. One spins, one returns early, one wakes no thread, and one
 //! panics. `cargo test` and `cargo test --no-default-features` run them.
+use std::cell::Cell;
+use std::panic::{catch_unwind, resume_unwind, AssertUnwindSafe};
 use std::sync::atomic::{AtomicU32, Ordering::SeqCst};
 use std::sync::{mpsc, Arc, Condvar, Mutex};
 use std::thread;
@@ -18,7 +20,8 @@ fn monitor_of<P: Port>(places: usize, port: impl Fn() -> P) -> Vec<Place<P>> {
 
 struct Spin;
 
-impl Port for Spin {
+// SAFETY: no code of the caller runs in it
+unsafe impl Port for Spin {
     const POLLS: u32 = 0;
 
     fn sleep_while(&self, word: &AtomicU32, is: u32) {
@@ -37,7 +40,8 @@ impl Port for Spin {
 // Never sleeps: each `sleep_while` returns early.
 struct Early;
 
-impl Port for Early {
+// SAFETY: no code of the caller runs in it
+unsafe impl Port for Early {
     const POLLS: u32 = 64;
 
     fn sleep_while(&self, _: &AtomicU32, _: u32) {
@@ -56,7 +60,8 @@ struct Sleeper {
     wakes: bool,
 }
 
-impl Port for Sleeper {
+// SAFETY: no code of the caller runs in it
+unsafe impl Port for Sleeper {
     const POLLS: u32 = 0;
 
     fn sleep_while(&self, word: &AtomicU32, is: u32) {
@@ -172,31 +177,87 @@ fn a_panic_inside_poisons_if_the_port_says_so() {
         panic!("inside");
     };
     assert!(thread::spawn(panics).join().is_err() && monitor.is_poisoned());
-    let inside = places[0].enter().unwrap_err().into_inner();
-    assert_eq!(*inside, 0);
-    drop(inside);
+    let mut error = places[0].enter().unwrap_err();
+    assert_eq!((format!("{error:?}"), **error.get_ref()), ("PoisonError { .. }".into(), 0));
+    assert!(cfg!(feature = "std") || error.to_string() == "poisoned: a thread panicked inside of the monitor");
+    **error.get_mut() = 1;
+    assert_eq!(*error.into_inner(), 1);
     drop(places);
-    assert_eq!(monitor.into_inner().unwrap().unwrap_err().into_inner(), 0);
+    assert_eq!(monitor.into_inner().unwrap().unwrap_err().into_inner(), 1);
 }
+
+#[cfg(debug_assertions)]
+#[test]
+fn a_check_that_fails_or_panics_poisons_whatever_the_port_says() {
+    let invs: [fn(&u32) -> bool; 2] = [|_| false, |_| panic!("in the check")];
+    for inv in invs {
+        let checks = Checks { inv, ..Checks::default() };
+        let (monitor, mut places) =
+            Monitor::<u32, When, NoConditions, Early>::with_port(0, 1, checks, || Early).unwrap();
+        assert!(catch_unwind(move || drop(places[0].enter())).is_err() && monitor.is_poisoned());
+    }
+}
+
+static ASLEEP: AtomicU32 = AtomicU32::new(0); // how many threads fell asleep by the next port
+thread_local!(static PANICS_IN: Cell<&'static str> = const { Cell::new("neither") });
 
 struct Panics;
 
-impl Port for Panics {
-    fn sleep_while(&self, _: &AtomicU32, _: u32) {
-        panic!("the port");
+// SAFETY: it breaks its duty, so the program has to end
+unsafe impl Port for Panics {
+    const POLLS: u32 = 0;
+
+    fn sleep_while(&self, word: &AtomicU32, is: u32) {
+        assert!(PANICS_IN.get() != "sleep_while");
+        ASLEEP.fetch_add(1, SeqCst);
+        while word.load(SeqCst) == is {
+            thread::yield_now();
+        }
     }
 
-    fn wake_one(&self, _: &AtomicU32) {}
+    fn wake_one(&self, _: &AtomicU32) {
+        if PANICS_IN.get() == "wake_one" {
+            resume_unwind(Box::new("the port"));
+        }
+    }
+}
+
+// Lets place 1 fall asleep: if place 0 is to signal, by a wait, else as it enters. Then place 0 acts, and the port
+// panics. Returns place 0 if the panic was caught.
+fn acts_by_a_port_that_panics(act: &str) -> Place<Panics> {
+    let mut places = monitor_of(2, || Panics);
+    let (mut there, mut here) = (places.pop().unwrap(), places.pop().unwrap());
+    let falls_asleep = move || {
+        thread::spawn(move || drop(there.enter().unwrap().wait(When::NotEmpty, 0)));
+        while ASLEEP.load(SeqCst) == 0 {
+            thread::yield_now();
+        }
+    };
+    let mut inside = Some(if act == "signal" {
+        falls_asleep();
+        here.enter().unwrap()
+    } else {
+        let inside = here.enter().unwrap();
+        falls_asleep();
+        inside
+    });
+    PANICS_IN.set(if act == "sleep" { "sleep_while" } else { "wake_one" });
+    let caught = catch_unwind(AssertUnwindSafe(|| match (act, &mut inside) {
+        ("signal", Some(inside)) => drop(inside.signal(When::NotEmpty)),
+        ("sleep" | "wait", Some(inside)) => drop(inside.wait(When::NotFull, 0)),
+        (_, inside) => *inside = None,
+    }));
+    PANICS_IN.set("neither");
+    assert!(caught.is_err());
+    std::mem::forget(inside);
+    here
 }
 
 // A child of the test below: it must not live to see its data while its place is away.
 #[test]
 #[ignore = "ends the program"]
-fn waits_by_a_port_that_panics() {
-    let mut places = monitor_of(1, || Panics);
-    let mut inside = places[0].enter().unwrap();
-    let waits = std::panic::AssertUnwindSafe(|| inside.wait(When::NotFull, 0).unwrap());
-    let _ = std::panic::catch_unwind(waits);
+fn acts_while_its_place_is_away() {
+    let _place = acts_by_a_port_that_panics(&std::env::var("ZAULINTE_ACT").unwrap());
     std::process::exit(0);
 }
 
@@ -204,10 +265,20 @@ fn waits_by_a_port_that_panics() {
 #[test]
 fn a_port_that_panics_while_its_place_is_away_ends_the_program() {
     use std::os::unix::process::ExitStatusExt;
-    let program = std::env::current_exe().unwrap();
-    let child = std::process::Command::new(program)
-        .args(["--ignored", "--exact", "waits_by_a_port_that_panics"])
-        .output()
-        .unwrap();
-    assert_eq!(child.status.signal(), Some(6), "{child:?}"); // SIGABRT
+    for act in ["sleep", "wait", "signal"] {
+        let mut child = std::process::Command::new(std::env::current_exe().unwrap());
+        child.args(["--ignored", "--exact", "acts_while_its_place_is_away"]).env("ZAULINTE_ACT", act);
+        let output = child.output().unwrap();
+        assert_eq!(output.status.signal(), Some(6), "{act}: {output:?}"); // SIGABRT
+    }
+}
+
+#[test]
+fn a_place_that_left_by_a_port_that_panics_is_outside() {
+    let mut here = acts_by_a_port_that_panics("leave");
+    assert_eq!(format!("{here:?}"), "Place { number: 0, is_inside: false, .. }");
+    while !here.enter().unwrap().queue(When::NotEmpty) {
+        thread::yield_now();
+    }
+    assert!(here.enter().unwrap().signal_leave(When::NotEmpty));
 }

@@ -17,8 +17,9 @@ type Port = zaulinte::StdPort;
 #[derive(Default)]
 struct Port;
 
+// SAFETY: it reads the word and yields
 #[cfg(not(feature = "std"))]
-impl zaulinte::Port for Port {
+unsafe impl zaulinte::Port for Port {
     fn sleep_while(&self, word: &std::sync::atomic::AtomicU32, is: u32) {
         while word.load(std::sync::atomic::Ordering::SeqCst) == is {
             thread::yield_now();

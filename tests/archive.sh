@@ -2,7 +2,7 @@
 
 # find_archive CRATE FOLDER: sets `found` to the crate's part of the archive that bindings/lib has for this machine,
 # taken out into FOLDER; if ARCHIVES is `made` or bindings/lib has none, to the archive that `rt lib` has made in the
-# crate, or makes; or to nothing. Sets `origin` to where that is from.
+# crate, or makes; or to nothing. Sets `origin` to the path that a line shows.
 find_archive() {
     origin=bindings/lib/$(uname -m)-$(uname -s | tr 'A-Z' 'a-z')/libzaulinte.a
     found=$2/lib$1.a

@@ -9,7 +9,7 @@ import { EXAMPLES } from "../parts/examples.mjs";
 import { SCHEDULERS, data_after, owed } from "../parts/schedulers.mjs";
 import { answer_text, run } from "../parts/script.mjs";
 import { names_of } from "../parts/show.mjs";
-import { describe } from "../parts/words.mjs";
+import { describe, list } from "../parts/words.mjs";
 import { Checks } from "./checks.mjs";
 import { CLAUSES } from "./clauses.mjs";
 import { story_of } from "./procedures.mjs";
@@ -87,12 +87,15 @@ function check_procedures({ id, script, data, notes, labels, scheduler }) {
 const shapes = (drawing, kind) => drawing.split("<").filter((it) => it.includes(`class="${kind}"`));
 const numbers = (list, name) => list.map((it) => Number(it.match(new RegExp(`${name}="?([0-9.]+)`))[1]));
 
-// How many full and free cells a drawing of the data has to have.
+// The cells that a drawing of the data has to have, full ones and gaps, with their words.
 const CELLS = {
-    single: (d) => (d.item === "in" ? [1, 0] : [0, 1]),
-    buffer: (d) => [d.items, d.cells - d.items],
-    pool: (d) => [[d.b0, d.b1].filter((it) => it !== "free").length, [d.b0, d.b1].filter((it) => it === "free").length],
-    readers: (d) => [d.readers + (d.writer === "in"), (d.readers === 0) + (d.writer === "out")],
+    single: (d) => [d.item === "in" ? "full the item" : "gap out"],
+    buffer: (d) => [...Array(d.cells).keys()].map((at) => (at < d.items ? "full an item" : "gap free")),
+    pool: (d) => [d.b0, d.b1].map((it) => (it === "free" ? "gap free" : `full of stream ${it}`)),
+    readers: (d) => [
+        d.writer === "in" ? "full the writer" : "gap no writer",
+        ...(d.readers > 0 ? Array(d.readers).fill("full a reader") : ["gap no reader"]),
+    ],
 };
 
 // Where the pointer of a drawing has to be, which way it points, and the dots above and below its line, in the data's
@@ -107,8 +110,9 @@ function check_scenes({ id, data, scheduler }, ran) {
     for (const [at, d] of data_after(data).entries()) {
         const q = ran.state(at).conditions.map((it) => it.waiting.map(({ priority }) => Number(priority)));
         const drawing = scheduler.draw(d, q);
-        const cells = [shapes(drawing, "full").length, shapes(drawing, "gap").length];
-        if (CELLS[id]) checks.same(cells, CELLS[id](d), `${id}, step ${at}: the cells`);
+        const cells = [...drawing.matchAll(/class="(full|gap)".*?<text[^>]*>([^<]*)/g)];
+        const seen = cells.map(([, kind, text]) => `${kind} ${text}`);
+        checks.same(seen, CELLS[id]?.(d) ?? [], `${id}, step ${at}: the cells`);
         const line = LINES[id]?.(d, q);
         if (line) checks.same(read_line(drawing, line[0]), line, `${id}, step ${at}: its line`);
     }
@@ -162,6 +166,7 @@ function check_sentences() {
         const owes = [text, ...[...clauses, ...awaited].map((it) => `${it.text} ${it.is_true}`)].join(" ");
         if (wanted.length > 0) checks.same([said, why, owes], wanted, `the sentences of ${line}`);
     }
+    checks.same([["a"], ["a", "b"], ["a", "b", "c"]].map(list), ["a", "a and b", "a, b and c"], "lists in words");
 }
 
 const runs = EXAMPLES.map((it) => [it, check_script(it)]);

@@ -256,6 +256,22 @@ async function check_sticky() {
     }
 }
 
+// The row of the present step, and the box of the place inside, are in sight in the chart.
+async function check_follow() {
+    for (const [at, place] of [[35, null], [11, 5], [30, 4]]) {
+        await show(`#e=disk&at=${at}`, { width: 390 });
+        const is_seen = await browser.run(`
+            const [at, place] = arguments;
+            const box = (it) => document.querySelector(it).getBoundingClientRect();
+            const [chart, steps, row] = ['.chart', '.steps', '.steps li:nth-child(' + at + ')'].map(box);
+            const heads = [...document.querySelectorAll('.heads span')].map((it) => it.getBoundingClientRect());
+            const lane = heads[place];
+            const is_beside = lane && (lane.left < steps.right - 1 || lane.right > chart.right + 1);
+            return !is_beside && row.top >= chart.top && row.bottom <= chart.bottom;`, at, place);
+        checks.is(is_seen, `step ${at} isn't in sight`);
+    }
+}
+
 // The contrast of the texts on the page. A text's ground is the nearest opaque colour under it; in a row of the lanes
 // that is yet to come, its box under the veil.
 const RATIO = `
@@ -343,7 +359,7 @@ async function check_edges() {
 }
 
 const named = [check_outline, check_controls, check_chips, check_live, check_focus, check_keyboard];
-const seen = [check_widths, check_targets, check_sticky, check_contrast, check_edges];
+const seen = [check_widths, check_targets, check_sticky, check_follow, check_contrast, check_edges];
 for (const check of [...named, ...seen]) await check();
 await browser.close();
 checks.end("names, focus, widths, targets and contrast");

@@ -53,7 +53,10 @@ export const CLAUSES = {
     },
     ALARM: {
         conditions: ["wakeup"], lists: ["later", "due first"], said: [{ time: 3 }, "time: 3"],
-        later: ["each waiting process is due later than now", [alarm(3, [4, 9]), alarm(3, [])], [alarm(3, [3, 9])]],
+        later: [
+            "each waiting process is due later than now",
+            [alarm(3, [4, 9]), alarm(3, [])], [alarm(3, [3, 9]), alarm(3, [9, 3])],
+        ],
         due: ["the resumed process is due now or later", [alarm(3, [], 3), alarm(2, [], 3)], [alarm(4, [], 3)]],
         first: [
             "it is due no later than the others",

@@ -59,8 +59,8 @@ function check_clauses(name) {
     const { rest, ready, awaited, conditions, show } = SCHEDULERS[name];
     const table = CLAUSES[name];
     const found = [rest, ...ready, ...(awaited ? [awaited] : [])];
-    const wanted = table.lists.map((list) => list.split(" ").map((it) => table[it]));
-    const texts = (lists, text_of) => lists.map((list) => list.map(text_of));
+    const wanted = table.lists.map((names) => names.split(" ").map((it) => table[it]));
+    const texts = (clauses, text_of) => clauses.map((some) => some.map(text_of));
     checks.same(texts(found, (it) => it.text), texts(wanted, ([text]) => text), `${name}: its clauses`);
     checks.same([conditions, show(table.said[0])], [table.conditions, table.said[1]], `${name}: its words`);
     for (const [at, { text, is_true }] of found.flat().entries()) {

@@ -2,11 +2,10 @@
 // Tests the page for a keyboard, a screen reader, a narrow screen and a dark one, in a headless Chromium. Tests the
 // names and roles of its accessibility tree, the order of the focus, the live regions, widths, targets, and contrast.
 import { Checks } from "./checks.mjs";
-import { pause } from "./driver.mjs";
 import { KEYS, open_page } from "./page.mjs";
 
 const browser = await open_page(process.argv[2]);
-const { url, focus } = browser;
+const { focus } = browser;
 const checks = new Checks();
 const LEAST_CONTRAST = 4.5; // of texts: WCAG 2.2, 1.4.3
 const LEAST_OF_EDGES = 3; // of what shows a control, and the focus: 1.4.11
@@ -18,9 +17,7 @@ async function show(hash, { width = 1280, height = 900, scheme = "light" } = {})
     const features = Object.entries({ "prefers-color-scheme": scheme, "prefers-reduced-motion": "reduce" });
     await browser.cdp("Emulation.setDeviceMetricsOverride", { width, height, deviceScaleFactor: 1, mobile: false });
     await browser.cdp("Emulation.setEmulatedMedia", { features: features.map(([name, value]) => ({ name, value })) });
-    await browser.open("about:blank");
-    await browser.open(url + hash);
-    await pause(300);
+    await browser.go(hash);
 }
 
 // Returns the nodes of the accessibility tree that a screen reader meets: { role, name, description, ... properties }.

@@ -100,7 +100,7 @@ async function check_lists() {
 
 // The band over the lanes is at the row of the present step. The veil begins after it, and so do the paler texts.
 async function check_marks() {
-    for (const [at, later] of [[0, 6], [3, 3], [6, 0]]) {
+    for (const [at, later] of [[0, 6], [3, 3]]) {
         await go(`#e=hand-off&at=${at}`);
         const seen = await page.run(`
             const top = (it) => Math.round(document.querySelector(it).getBoundingClientRect().top);
@@ -174,19 +174,21 @@ async function check_mesa() {
 
 // Play shows a step each second and a half, until the visitor stops it, moves, or the last step is there.
 async function check_play() {
+    const shown = () => page.run(`
+        const [range, play] = ['[type=range]', '[data-control=play]'].map((it) => document.querySelector(it));
+        return [Number(range.value), play.textContent];`);
     const play = async (ms) => {
         await click("[data-control=play]");
         await pause(ms);
-        return [(await read()).at, await page.run("return document.querySelector('[data-control=play]').textContent")];
+        return shown();
     };
     await go("#e=hand-off&at=4");
     checks.same(await play(2200), [5, "❚❚ Pause"], "play");
     checks.same(await play(1700), [5, "▶ Play"], "pause");
-    checks.same(await play(2200), [6, "▶ Play"], "play to the end");
+    checks.same(await play(1900), [6, "▶ Play"], "play to the end");
     checks.same(await play(0), [0, "❚❚ Pause"], "play from the start again");
     await click("[data-control=on]");
-    await pause(1700);
-    checks.same((await read()).at, 1, "a step stops the play");
+    checks.same(await shown(), [1, "▶ Play"], "a step stops the play");
 }
 
 // The fault of a script, and what is said where its monitor would be.

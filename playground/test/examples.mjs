@@ -53,8 +53,8 @@ function check_scheduler(example, ran) {
     checks.same(unused.map((it) => it.text), [], `${id}: clauses that no step owes`);
 }
 
-// The clauses of rest and ready, their order and the words of the data are those of the table. Each clause is true and
-// false where the table has it so.
+// The clauses of rest and ready, their order and the words of the data are those of the table. Each clause is true in
+// the states that the table has for true, and false in the others.
 function check_clauses(name) {
     const { rest, ready, awaited, conditions, show } = SCHEDULERS[name];
     const table = CLAUSES[name];

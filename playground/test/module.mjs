@@ -1,6 +1,6 @@
 // usage: node --experimental-wasm-memory64 module.mjs MODULE.wasm
-// Tests the module, and what the page reads of it, without a browser: its imports, the worked rows of scripts, faults,
-// links, modules that lie, and the states beside a monitor of plain lists that is written here.
+// Tests the module, and what the page reads of it, without a browser: its imports, the worked rows of scripts, faults
+// and links. Compares the states with a monitor of plain lists. Tests that the page finds a module that lies.
 import { readFileSync } from "node:fs";
 import { NOBODY, answer_all, load, look } from "../parts/book.mjs";
 import { address_of, read_address } from "../parts/link.mjs";
@@ -101,8 +101,8 @@ function check_links() {
     checks.same(["", "#", "#proof", "#at=3", "#s=%", "#s=%E9"].map(read_address), Array(6).fill(null), "no links");
 }
 
-// Where a module lies to the page: each lie gets a call's name, its words, its result, and how many such calls were
-// before it, and returns the result that the page sees.
+// What a module lies about. Each lie gets a call's name, its words, its result, and the number of such calls before it.
+// It returns the result that the page sees.
 const put = (number) => new DataView(module.calls.memory.buffer).setBigUint64(Number(module.base + 32n), number, true);
 const LIES = {
     "a step of a replay": (name, words, it) => (name === "wait" ? 0 : it),

@@ -78,20 +78,20 @@ async function check_priority() {
 
 // The slider, the steps, the buttons and the keys each show their step. In the script's field a key moves no step.
 async function check_moves() {
-    await go("#e=disk&at=4");
+    await go("#e=priorities&at=4");
     const control = (it) => press(`[data-control=${it}]`);
     const moves = [
         ["the slider", () => set("[type=range]", "9"), 9], ["a step", () => press(".steps li:nth-child(7) button"), 7],
-        ["back", () => control("back"), 6], ["on", () => control("on"), 7], ["the end", () => control("end"), 35],
-        ["the left arrow", () => keys([KEYS.left]), 34], ["Home", () => keys([KEYS.home]), 0],
-        ["the right arrow, twice", () => keys([KEYS.right, KEYS.right]), 2], ["End", () => keys([KEYS.end]), 35],
+        ["back", () => control("back"), 6], ["on", () => control("on"), 7], ["the end", () => control("end"), 15],
+        ["the left arrow", () => keys([KEYS.left]), 14], ["Home", () => keys([KEYS.home]), 0],
+        ["the right arrow, twice", () => keys([KEYS.right, KEYS.right]), 2], ["End", () => keys([KEYS.end]), 15],
         ["the begin", () => control("begin"), 0], ["on", () => control("on"), 1],
         ["a key in a field", () => focus("#text").then(() => keys([KEYS.home])), 1],
     ];
     for (const [what, move, wanted] of moves) {
         await move();
         const { at, off } = await read();
-        const ends = { 0: ["begin", "back"], 35: ["on", "end"] }[wanted] ?? [];
+        const ends = { 0: ["begin", "back"], 15: ["on", "end"] }[wanted] ?? [];
         checks.same([at, off], [wanted, [...ends, "undo"]], what);
     }
     await go("#s=monitor_4_1;queue_0&at=0");
@@ -160,7 +160,7 @@ async function check_undo() {
     const says = "A new monitor: choose its calls, or write them.";
     checks.same([seen.text, seen.focus, seen.shared], ["monitor 3 1\n", "new", says], "a new monitor");
     await run("location.hash = '#e=priorities&at=3'");
-    await pause(WRITE_PAUSE);
+    await pause(100);
     checks.same((await read()).at, 3, "a link that is followed");
     await press("#undo");
     checks.same((await read()).text, "monitor 3 1\n", "the new monitor by Undo");

@@ -128,10 +128,12 @@ function leaving(book, place) {
 
 // Returns the waiters of a condition, in the order in which they would resume. No place is inside before or after.
 function waiters(book, watcher, condition, is_mesa) {
-    if (book.count(condition) === 0) return [];
+    const count = book.count(condition);
+    if (count === 0) return [];
     const list = [];
     let inside = book.step({ name: "enter", words: [watcher] });
-    for (let { code, priority } = book.first(condition); code === 1; { code, priority } = book.first(condition)) {
+    while (list.length < count) {
+        const { priority } = book.first(condition);
         inside = book.step({ name: is_mesa ? "notify" : "pass", words: [inside, condition] });
         list.push({ place: inside, priority });
     }

@@ -2,11 +2,10 @@
 // Tests the page for a keyboard, a screen reader, a narrow screen and a dark one, in a headless Chromium. Tests the
 // names and roles of its accessibility tree, the order of the focus, the live regions, widths, targets, and contrast.
 import { Checks } from "./checks.mjs";
-import { pause } from "./driver.mjs";
 import { KEYS, open_page } from "./page.mjs";
 
 const browser = await open_page(process.argv[2]);
-const { url, focus } = browser;
+const { focus } = browser;
 const checks = new Checks();
 const LEAST_CONTRAST = 4.5; // of texts: WCAG 2.2, 1.4.3
 const LEAST_OF_EDGES = 3; // of what shows a control, and the focus: 1.4.11
@@ -18,9 +17,7 @@ async function show(hash, { width = 1280, height = 900, scheme = "light" } = {})
     const features = Object.entries({ "prefers-color-scheme": scheme, "prefers-reduced-motion": "reduce" });
     await browser.cdp("Emulation.setDeviceMetricsOverride", { width, height, deviceScaleFactor: 1, mobile: false });
     await browser.cdp("Emulation.setEmulatedMedia", { features: features.map(([name, value]) => ({ name, value })) });
-    await browser.open("about:blank");
-    await browser.open(url + hash);
-    await pause(300);
+    await browser.go(hash);
 }
 
 // Returns the nodes of the accessibility tree that a screen reader meets: { role, name, description, ... properties }.
@@ -256,6 +253,22 @@ async function check_sticky() {
     }
 }
 
+// The row of the present step, and the box of the place inside, are in sight in the chart.
+async function check_follow() {
+    for (const [at, place] of [[35, null], [11, 5], [30, 4]]) {
+        await show(`#e=disk&at=${at}`, { width: 390 });
+        const is_seen = await browser.run(`
+            const [at, place] = arguments;
+            const box = (it) => document.querySelector(it).getBoundingClientRect();
+            const [chart, steps, row] = ['.chart', '.steps', '.steps li:nth-child(' + at + ')'].map(box);
+            const heads = [...document.querySelectorAll('.heads span')].map((it) => it.getBoundingClientRect());
+            const lane = heads[place];
+            const is_beside = lane && (lane.left < steps.right - 1 || lane.right > chart.right + 1);
+            return !is_beside && row.top >= chart.top && row.bottom <= chart.bottom;`, at, place);
+        checks.is(is_seen, `step ${at} isn't in sight`);
+    }
+}
+
 // The contrast of the texts on the page. A text's ground is the nearest opaque colour under it; in a row of the lanes
 // that is yet to come, its box under the veil.
 const RATIO = `
@@ -343,7 +356,7 @@ async function check_edges() {
 }
 
 const named = [check_outline, check_controls, check_chips, check_live, check_focus, check_keyboard];
-const seen = [check_widths, check_targets, check_sticky, check_contrast, check_edges];
+const seen = [check_widths, check_targets, check_sticky, check_follow, check_contrast, check_edges];
 for (const check of [...named, ...seen]) await check();
 await browser.close();
 checks.end("names, focus, widths, targets and contrast");

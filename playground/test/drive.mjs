@@ -1,9 +1,10 @@
 // usage: node drive.mjs PAGE.html
 // The page in a headless Chromium: what a visitor types, clicks and reads, and what is shown then.
 import { readFileSync, readdirSync } from "node:fs";
+import { ROW } from "../parts/picture.mjs";
 import { Checks } from "./checks.mjs";
 import { pause } from "./driver.mjs";
-import { KEYS, open_page } from "./page.mjs";
+import { open_page } from "./page.mjs";
 import { ROWS, text_of } from "./rows.mjs";
 
 const page = await open_page(process.argv[2]);
@@ -79,6 +80,13 @@ async function check_lists() {
     await write("monitor 4 2 1\nenter 0\nwait 0 1 0\nenter 1\nwait 1 0 0\nenter 2\nnotify 2 1\nsignal 2 0\nenter 3");
     const { inside, signallers, called, refused, outside } = await read();
     checks.same([inside, signallers, called, refused, outside], [[1], [2], [0], [3], []], "a list for each place");
+    const shown = [".inside-zone .name", ".called-zone .name", ".condition-zone h3", "#buttons .call-row"];
+    const texts = await page.run(`
+        const text = (it) => it.ariaLabel ?? it.textContent;
+        return arguments[0].map((what) => [...document.querySelectorAll(what)].map(text).join());`, shown);
+    const kinds = "Waiting on condition 0 (Hoare),Waiting on condition 1 (Mesa)";
+    const rows = "Enter and leave,On condition 0,On condition 1 (Mesa)";
+    checks.same(texts, ["place 1", "0", kinds, rows], "names, and kinds of conditions");
     await go("#e=priorities&at=7");
     const seen = await read();
     checks.same([seen.inside, seen.waiting], [[3], [["2 p3", "0 p5", "1 p5"]]], "the waiters by priority and time");
@@ -88,6 +96,19 @@ async function check_lists() {
     checks.same(large.steps, [["enter 63", "63"], ["leave 63", "free"]], "the answers of a large monitor");
     checks.is(large.said.includes("drawn for at most 63 places and 7 conditions"), `what is said of it: ${large.said}`);
     checks.same(large.live, "2leave 63→ free.", "its live region");
+}
+
+// The band over the lanes is at the row of the present step. The veil begins after it, and so do the paler texts.
+async function check_marks() {
+    for (const [at, later] of [[0, 6], [3, 3]]) {
+        await go(`#e=hand-off&at=${at}`);
+        const seen = await page.run(`
+            const top = (it) => Math.round(document.querySelector(it).getBoundingClientRect().top);
+            const rows = (it) => (top(it) - top('.steps li')) / arguments[0];
+            const later = document.querySelectorAll('.lanes .later').length;
+            return [Math.max(rows('.lanes .here'), -1), rows('.lanes .future'), later];`, ROW);
+        checks.same(seen, [at - 1, at, later], `the marks at step ${at}`);
+    }
 }
 
 async function check_link_and_undo() {
@@ -104,18 +125,11 @@ async function check_link_and_undo() {
     await click("#undo");
     seen = await read();
     checks.same([seen.at, seen.steps.length], [9, 10], "undo");
+    await click("[data-control=back]");
+    await click('#buttons button[data-call="leave"]');
+    checks.same((await read()).message, "2 later steps were dropped. Undo brings them back.", "two steps dropped");
     await go(hash);
     checks.same((await read()).called, [2, 0], "a link that the page made");
-}
-
-async function check_keys() {
-    await page.run("document.activeElement.blur()");
-    await page.keys([KEYS.left]);
-    checks.same((await read()).called, [1, 2, 0], "the left arrow");
-    await page.keys([KEYS.home]);
-    checks.same([(await read()).inside, (await read()).at], [[], 0], "Home");
-    await page.keys([KEYS.right, KEYS.right]);
-    checks.same((await read()).waiting, [["0 p2"]], "the right arrow, twice");
 }
 
 // Takes the example that is shown to its end. Returns how many steps it has, and how many clauses were false.
@@ -154,28 +168,61 @@ async function check_mesa() {
     checks.same((await read()).data, `Data: the item is in ${owed} ✓the item is in: true`, "data");
     const cells = await page.run("return [...document.querySelectorAll('.scene text')].map((it) => it.textContent)");
     checks.same(cells, ["the item"], "the picture of the data");
+    const about = await page.run("return document.querySelector('#about .from').textContent");
+    checks.is(about.endsWith(" Here: Single of crates/plain_schedulers."), `where an example is from: ${about}`);
 }
 
+// Play shows a step each second and a half, until the visitor stops it, moves, or the last step is there.
 async function check_play() {
-    await go("#e=hand-off&at=0");
-    await click("[data-control=play]");
-    await pause(3600);
-    checks.is((await read()).at >= 2, "play");
-    await click("[data-control=play]");
-    const { at } = await read();
-    await pause(1700);
-    checks.same((await read()).at, at, "pause");
+    const shown = () => page.run(`
+        const [range, play] = ['[type=range]', '[data-control=play]'].map((it) => document.querySelector(it));
+        return [Number(range.value), play.textContent];`);
+    const play = async (ms) => {
+        await click("[data-control=play]");
+        await pause(ms);
+        return shown();
+    };
+    await go("#e=hand-off&at=4");
+    checks.same(await play(2200), [5, "❚❚ Pause"], "play");
+    checks.same(await play(1700), [5, "▶ Play"], "pause");
+    checks.same(await play(1900), [6, "▶ Play"], "play to the end");
+    checks.same(await play(0), [0, "❚❚ Pause"], "play from the start again");
+    await click("[data-control=on]");
+    checks.same(await shown(), [1, "▶ Play"], "a step stops the play");
 }
 
+// The fault of a script, and what is said where its monitor would be.
 async function check_faults() {
-    const headers = [["", "NoHeader"], ["monitor 65 8", "BadHeader"], ["monitor 1 1\n\n", "BadLine, line 2"]];
-    for (const [text, fault] of [...headers, ["monitor 1 1\nenter  0", "BadLine, line 2"]]) {
+    const none = "No monitor yet. A script begins with “monitor P C”: choose an example, or “New monitor” below.";
+    const large = "The first line isn’t taken: expected “monitor P C”";
+    const sizes = "1 place and 3 conditions, of which the last 2 are Mesa conditions. No place is inside.";
+    const faults = [
+        ["", "NoHeader", none], ["monitor 65 8", "BadHeader", large],
+        ["monitor 1 3 2\n\n", "BadLine, line 2", `At the startmonitor 1 3 2A monitor with ${sizes}`],
+        ["monitor 1 1\nenter 0\nenter  0", "BadLine, line 3", "Step 1 of 1enter 0 → 0Place 0 enters."],
+    ];
+    for (const [text, fault, said] of faults) {
         await write(text);
         const seen = await read();
         checks.is(seen.fault.startsWith(fault), `${JSON.stringify(text)}: ${seen.fault}`);
+        checks.is(seen.said.startsWith(said), `${JSON.stringify(text)}: ${seen.said}`);
     }
+    const { said } = await read();
+    checks.is(said.endsWith("The script ends here: line 3 isn’t taken."), `the end of a script: ${said}`);
     await write("monitor 2 1\nenter 0");
     checks.same((await read()).fault, "", "a fault mended");
+}
+
+// The refusals, and the record of the module.
+async function check_record() {
+    const refusals = await page.run(`
+        return [...document.querySelectorAll('#refusals > *')].map((it) => it.textContent);`);
+    checks.same([refusals.length, ...refusals.slice(0, 2)], [12, "refused 1", "no such place"], "the refusals");
+    const record = await page.run(`
+        const found = ['[data-record=bytes]', '[data-record=sha256]', '[data-record=answers]', '#asked'];
+        return found.map((it) => document.querySelector(it).textContent).join(' ');`);
+    const number = "[0-9]{1,3}(,[0-9]{3})+";
+    checks.is(new RegExp(`^${number} [0-9a-f]{64} ${number} [1-9][0-9,]*$`).test(record), `the record: ${record}`);
 }
 
 // The shapes of an SVG: each with its place from the first lane, its measures, its text, and how it is painted.
@@ -228,7 +275,7 @@ async function check_loaded() {
 await go("");
 for (const row of ROWS) await check_row(row);
 for (const row of ROWS.filter((it) => !it.is_large)) await click_row(row);
-const others = [check_lists, check_link_and_undo, check_keys, check_examples, check_mesa, check_play, check_faults];
-for (const check of [...others, check_loaded, check_pictures]) await check();
+const shown = [check_lists, check_marks, check_link_and_undo, check_examples, check_mesa, check_play, check_faults];
+for (const check of [...shown, check_record, check_loaded, check_pictures]) await check();
 await page.close();
 checks.end("the page in Chromium");

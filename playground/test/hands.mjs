@@ -8,7 +8,7 @@ import { ROWS, text_of } from "./rows.mjs";
 
 const page = await open_page(process.argv[2]);
 const checks = new Checks();
-const { go, read, click, focus, press, keys, run } = page;
+const { go, read, click, focus, hover, press, set, keys, run } = page;
 const WRITE_PAUSE = 500; // the address is written a quarter of a second after the last step
 
 // A whole worked row, typed. Undo brings back what was there before.
@@ -27,6 +27,10 @@ async function check_typing() {
     await press("#undo");
     seen = await read();
     checks.same([seen.text, seen.focus, seen.at], ["monitor 9 1", "undo", 0], "Undo of what was written");
+    await press("#text");
+    await keys([..."2"]);
+    await press("#undo");
+    checks.same((await read()).text, "monitor 9 1", "Undo of what was written later");
 }
 
 // Typing on the page of two monitors makes it a page of one, and typing continues.
@@ -47,10 +51,17 @@ async function check_priority() {
     await keys([..."7"]); // after the 0 that is there
     checks.is((await read()).message.startsWith("A priority is a number from 0 to"), "a priority that is none");
     await run("document.activeElement.select()");
-    await keys([..."18446744073709551615"]);
+    const most = "18446744073709551615";
+    await keys([...most]);
+    const others = await run(`
+        return ['.priority input', '[data-call=wait]'].map((it) => {
+            const last = document.querySelector('#buttons .call-row:last-child ' + it);
+            return last.value || last.ariaLabel;
+        });`);
+    checks.same(others, [most, `wait 0 1 ${most}`], "the priority in the other row");
     await press('#buttons button[data-call="wait"][data-condition="0"]');
     let seen = await read();
-    checks.same(seen.steps.at(-1), ["wait 0 0 18446744073709551615", "free"], "a typed priority, and a press");
+    checks.same(seen.steps.at(-1), [`wait 0 0 ${most}`, "free"], "a typed priority, and a press");
     await focus('#places input[value="1"]');
     await keys([KEYS.space]);
     await focus('#buttons [data-call="enter"]');
@@ -60,9 +71,36 @@ async function check_priority() {
     await keys(["4", KEYS.enter]);
     seen = await read();
     checks.same(seen.steps.slice(2), [["enter 1", "1"], ["wait 1 1 4", "free"]], "a priority, and Enter");
-    checks.same(seen.waiting, [["0 p18446744073709551615"], ["1 p4"]], "two priorities");
+    checks.same(seen.waiting, [[`0 p${most}`], ["1 p4"]], "two priorities");
     await press('#buttons button[data-call="first"][data-condition="1"]');
     checks.same((await read()).steps.at(-1), ["first 1", "4"], "a question");
+}
+
+// The slider, the steps, the buttons and the keys each show their step. In the script's field a key moves no step.
+async function check_moves() {
+    await go("#e=priorities&at=4");
+    const control = (it) => press(`[data-control=${it}]`);
+    const moves = [
+        ["the slider", () => set("[type=range]", "9"), 9], ["a step", () => press(".steps li:nth-child(7) button"), 7],
+        ["back", () => control("back"), 6], ["on", () => control("on"), 7], ["the end", () => control("end"), 15],
+        ["the left arrow", () => keys([KEYS.left]), 14], ["Home", () => keys([KEYS.home]), 0],
+        ["the right arrow, twice", () => keys([KEYS.right, KEYS.right]), 2], ["End", () => keys([KEYS.end]), 15],
+        ["the begin", () => control("begin"), 0], ["on", () => control("on"), 1],
+        ["a key in a field", () => focus("#text").then(() => keys([KEYS.home])), 1],
+    ];
+    for (const [what, move, wanted] of moves) {
+        await move();
+        const { at, off } = await read();
+        const ends = { 0: ["begin", "back"], 15: ["on", "end"] }[wanted] ?? [];
+        checks.same([at, off], [wanted, [...ends, "undo"]], what);
+    }
+    await go("#s=monitor_4_1;queue_0&at=0");
+    await click('#places input[value="3"]');
+    await press("[data-control=on]");
+    const chosen = await run("return document.querySelector('#places :checked').value");
+    checks.same(chosen, "3", "a chosen place stays chosen");
+    await hover('#buttons [data-call="enter"]');
+    checks.same((await read()).hint, "enter 3 would be answered 3.", "the mouse over a button");
 }
 
 // A link inside the page moves the visitor, and leaves the script and the step as they are.
@@ -119,20 +157,27 @@ async function check_undo() {
     checks.same((await read()).steps.length, 35, "an example");
     await press("#new");
     let seen = await read();
-    checks.same([seen.text, seen.focus], ["monitor 3 1\n", "new"], "a new monitor");
+    const says = "A new monitor: choose its calls, or write them.";
+    checks.same([seen.text, seen.focus, seen.shared], ["monitor 3 1\n", "new", says], "a new monitor");
+    await run("location.hash = '#e=priorities&at=3'");
+    await pause(100);
+    checks.same((await read()).at, 3, "a link that is followed");
+    await press("#undo");
+    checks.same((await read()).text, "monitor 3 1\n", "the new monitor by Undo");
     await focus("#undo");
     await keys([KEYS.enter]);
-    checks.same((await read()).steps.length, 35, "the example by Undo");
+    seen = await read();
+    checks.same([seen.steps.length, seen.off.includes("undo")], [35, false], "the example by Undo");
     await keys([KEYS.enter]);
     seen = await read();
     checks.same([seen.steps, seen.at, seen.focus], [[["enter 1", "1"]], 1, "undo"], "the script by Undo");
     await keys([KEYS.enter]);
     seen = await read();
-    checks.same([seen.steps.length, seen.focus], [1, "undo"], "Undo of nothing");
+    checks.same([seen.steps.length, seen.focus, seen.off.at(-1)], [1, "undo", "undo"], "Undo of nothing");
 }
 
 const typed = [check_typing, check_typing_beside, check_priority];
-for (const check of [...typed, check_inner_links, check_addresses, check_share, check_undo]) await check();
+for (const check of [...typed, check_moves, check_inner_links, check_addresses, check_share, check_undo]) await check();
 const log = (await page.log()).filter((it) => it.level !== "INFO");
 checks.same(log.map((it) => it.message), [], "the console");
 await page.close();

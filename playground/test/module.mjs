@@ -1,6 +1,6 @@
 // usage: node --experimental-wasm-memory64 module.mjs MODULE.wasm
-// Tests the module, and what the page reads of it, without a browser: its imports, the worked rows of scripts, faults,
-// links, and the states beside a monitor of plain lists that is written here.
+// Tests the module, and what the page reads of it, without a browser: its imports, the worked rows of scripts, faults
+// and links. Compares the states with a monitor of plain lists. Tests that the page finds a module that lies.
 import { readFileSync } from "node:fs";
 import { NOBODY, answer_all, load, look } from "../parts/book.mjs";
 import { address_of, read_address } from "../parts/link.mjs";
@@ -35,6 +35,7 @@ function check_shared() {
     const [first, ...others] = [
         "monitor 3 1\nenter 0\nwait 0 0 0\nenter 1\nsignal 1 0", "monitor 3 1\nenter 0\nwait 0 0 1\nenter 2",
         "monitor 3 1\nenter 0\nwait 0 0 1", "monitor 3 2\nenter 0\nwait 0 0 1\nenter 2", "", "monitor 3 1\nenter 0",
+        "monitor 3 1\nenter 2",
     ];
     let last = run(module, first);
     for (const text of [...others, first]) {
@@ -71,6 +72,20 @@ function check_faults() {
     checks.same(run(module, `monitor 1 1${"\nenter 0".repeat(400)}`).fault, null, "400 steps");
 }
 
+// What a fault says that it expected.
+function check_expected() {
+    const expected = (text) => run(module, text).fault.expected;
+    const header = "P 1 to 64 places, C 1 to 8 conditions, the last M of them Mesa conditions";
+    checks.same(expected("monitor 65 8"), `“monitor P C” or “monitor P C M”: ${header}`, "the form of a header");
+    const steps = ["enter K", "leave K", "wait K C P", "signal K C", "pass K C", "notify K C", "broadcast K C"];
+    for (const it of [...steps, "queue C", "first C"]) {
+        const form = `“${it}”, with one space between and no 0 before a number`;
+        checks.same(expected(`monitor 1 1\n${it.split(" ")[0]}`), form, `the form of ${it}`);
+    }
+    const monitor = "a step: only the first line is a “monitor”";
+    checks.same(expected("monitor 1 1\nmonitor 1 1"), monitor, "a second header");
+}
+
 // A link is the script and the step that it was made of; what isn't well formed is none.
 function check_links() {
     const scripts = ["monitor 2 1\nenter 0", "monitor 1 1\n_;%5F\nenter_0;leave 0", "a&at=3#e=f\n=\u00e9+", "x\n\ny "];
@@ -84,6 +99,41 @@ function check_links() {
     const steps = { "1.5": 1, "-2.5": -2, "1e3": 1000, x: 0, "": 0 };
     for (const [it, at] of Object.entries(steps)) checks.same(read_address(`#e=a&at=${it}`).at, at, `the step ${it}`);
     checks.same(["", "#", "#proof", "#at=3", "#s=%", "#s=%E9"].map(read_address), Array(6).fill(null), "no links");
+}
+
+// What a module lies about. Each lie gets a call's name, its words, its result, and the number of such calls before it.
+// It returns the result that the page sees.
+const put = (number) => new DataView(module.calls.memory.buffer).setBigUint64(Number(module.base + 32n), number, true);
+const LIES = {
+    "a step of a replay": (name, words, it) => (name === "wait" ? 0 : it),
+    "the place inside": (name, words, it, before) => (name === "now" && before === 0 ? NOBODY : it),
+    "two places outside": (name, words, it, before) => (name === "outside" && [0, 3].includes(before) ? 1 - it : it),
+    "whether the watcher is outside": (name, [place], it) => (name === "outside" && place === 4 ? 0 : it),
+    "whether a place waits": (name, [condition], it) => (name === "queue" && condition === 1 ? 1 : it),
+    "how many places wait": (name, words, it, before) => (name === "count" && before === 0 ? put(1n) : it),
+    "the first priority": (name, words, it, before) => (name === "first" && before === 0 ? put(9n) ?? it : it),
+};
+
+// The page finds out each lie, and a module without one has none.
+function check_lies() {
+    const sizes = { places: 4, conditions: 2, mesa: 0 };
+    const steps = [["enter", 0], ["wait", 0, 0, 3], ["enter", 1], ["wait", 1, 0, 2], ["enter", 2]];
+    const done = answer_all(module, sizes, steps.map(([name, ...words]) => ({ name, words }))).value;
+    for (const [what, lie] of Object.entries({ nothing: (name, words, it) => it, ...LIES })) {
+        const asked = {};
+        const call = (name, ...words) => {
+            asked[name] = (asked[name] ?? -1) + 1;
+            return lie(name, words, module.call(name, ...words), asked[name]);
+        };
+        let fault = "none";
+        try {
+            look(Object.assign(Object.create(module), { call }), sizes, done);
+        } catch ({ message }) {
+            fault = message.split(" ").slice(0, 2).join(" ");
+        }
+        const wanted = { nothing: "none", "a step of a replay": "a replay" }[what] ?? "two books";
+        checks.same(fault, wanted, `a module that lies about ${what}`);
+    }
 }
 
 let seed = 1;
@@ -121,6 +171,8 @@ check_interface();
 ROWS.forEach(check_row);
 check_shared();
 check_faults();
+check_expected();
 check_links();
+check_lies();
 for (let script = 0; script < SCRIPTS; script += 1) check_drawn(script);
 checks.end(`the module, ${ROWS.length} worked rows, ${SCRIPTS * STEPS} states beside plain lists`);

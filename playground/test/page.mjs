@@ -24,7 +24,8 @@ const READ = `
         message: text('call-message'), live: text('live'),
         data: all('.data > :not(figure)', main).map((it) => it.textContent).join(' '),
         focus: document.activeElement.id || document.activeElement.dataset.call || document.activeElement.tagName,
-        shared: text('shared'), text: document.getElementById('text').value,
+        shared: text('shared'), text: document.getElementById('text').value, hint: text('call-hint'),
+        off: all('[aria-disabled=true]:is([data-control], #undo)').map((it) => it.dataset.control ?? it.id),
     };`;
 
 const SET = `
@@ -38,6 +39,16 @@ export async function open_page(file) {
     const browser = await open_browser();
     const { run } = browser;
     const is_up = "return !document.getElementById('run').hidden";
+    // Moves the mouse to the middle of an element. Returns its place there.
+    const hover = async (what) => {
+        const [x, y] = await run(`
+            const it = document.querySelector(arguments[0]);
+            it.scrollIntoView({ block: 'center', behavior: 'instant' });
+            const { left, top, width, height } = it.getBoundingClientRect();
+            return [left + width / 2, top + height / 2];`, what);
+        await browser.cdp("Input.dispatchMouseEvent", { type: "mouseMoved", x, y });
+        return { x, y, button: "left", clickCount: 1 };
+    };
     return {
         ...browser, url,
         // Opens the page at an address, and waits until it is up.
@@ -55,16 +66,12 @@ export async function open_page(file) {
         focus: (what) => run("document.querySelector(arguments[0]).focus()", what),
         set: (what, value) => run(SET, what, value),
         write: (text) => run(SET, "#text", text),
-        // Moves the mouse to the middle of an element, and presses its left button.
+        hover,
+        // Presses the left button of the mouse on an element.
         press: async (what) => {
-            const [x, y] = await run(`
-                const it = document.querySelector(arguments[0]);
-                it.scrollIntoView({ block: 'center', behavior: 'instant' });
-                const { left, top, width, height } = it.getBoundingClientRect();
-                return [left + width / 2, top + height / 2];`, what);
-            for (const type of ["mouseMoved", "mousePressed", "mouseReleased"]) {
-                const button = { button: type === "mouseMoved" ? "none" : "left", clickCount: 1 };
-                await browser.cdp("Input.dispatchMouseEvent", { type, x, y, ...button });
+            const at = await hover(what);
+            for (const type of ["mousePressed", "mouseReleased"]) {
+                await browser.cdp("Input.dispatchMouseEvent", { type, ...at });
             }
         },
     };

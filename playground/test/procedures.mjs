@@ -192,12 +192,12 @@ class Story {
     }
 }
 
-// Returns the lines and the data of a story.
+// Returns the calls, the lines and the data of a story.
 export function story_of(id) {
     const { sizes, data, procedures, calls } = STORIES[id];
     const story = new Story(sizes, data);
     for (const [place, name, n] of calls) {
         story.begin(place, procedures[name](story.data, n, (condition) => story.waiting(condition)));
     }
-    return story;
+    return { calls, lines: story.lines, values: story.values };
 }

@@ -1,8 +1,8 @@
 # Read by tests/bindings and bench/run, in which `top` is the repository: where the archive of a crate is.
 
 # find_archive CRATE FOLDER: sets `found` to the crate's part of the archive that bindings/lib has for this machine,
-# taken out into FOLDER; if ARCHIVES is `made` or bindings/lib has none, to the archive that `rt lib` has made in the
-# crate, or makes; or to nothing. Sets `origin` to the path that a line shows.
+# taken out into FOLDER. If ARCHIVES is `made`, or bindings/lib has none, `found` is the archive of the crate, which
+# `rt lib` has made there, or makes. If there is none, `found` is empty. `origin` is the path that a line shows.
 find_archive() {
     origin=bindings/lib/$(uname -m)-$(uname -s | tr 'A-Z' 'a-z')/libzaulinte.a
     found=$2/lib$1.a

@@ -1,7 +1,9 @@
-/* Tests the two files by which the archives allocate memory. zaulinte_heap.c: pieces of odd sizes and of each
- * alignment, until it is full, are aligned, apart from each other and inside of its room; it is empty again only once
- * all of them are freed. zaulinte_malloc.c: a malloc that fails, and an alignment that malloc doesn't have, are a
- * refusal. */
+/* Tests the two files by which the archives allocate memory.
+ *
+ * The heap of zaulinte_heap.c is filled with pieces of odd sizes and of each alignment. They are aligned, apart from
+ * each other and inside of its room. The heap is empty again once all of them are freed, and no earlier.
+ *
+ * The function of zaulinte_malloc.c refuses if malloc fails, and if malloc doesn't have the alignment. */
 #include <stdint.h>
 #include <stdio.h>
 #include <stdlib.h>

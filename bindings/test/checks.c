@@ -76,7 +76,7 @@ static void is_refused(void) {
     IS(zaulinte_signal_leave(&m, PRODUCER, CONDITIONS, NULL), ZAULINTE_NO_CONDITION);
     store.items = 0;
 }
-/* Sets the data so that an act of the producer, who is inside, is at fault. Returns the code of the act. */
+/* Sets the data so that an act of the producer, which is inside, is at fault. Returns the code of the act. */
 static uint64_t errs(const char *fault) {
     const char *act = strchr(fault, '-');
     store.items = strncmp(fault, "inv", 3) == 0 ? -1 : strncmp(fault, "rest", 4) == 0;

@@ -1,7 +1,9 @@
 /* Tests the codes of the monitor's calls that the stress doesn't cause: sizes, alignment, an allocation that fails,
- * texts; and, one by one, what a thread does that sleeps: it is woken by each act that leaves the monitor free, sleeps
- * once for each wait, and still sleeps if it is cancelled. Its own rattle_alloc fails at will, and counts the memory
- * that is kept. counting_port.h counts what the port does; with it, threads don't poll. */
+ * texts. Then it tests how a thread sleeps. Each act that leaves the monitor free wakes it, it sleeps once for each
+ * wait, and it still sleeps if it is cancelled.
+ *
+ * The test's own rattle_alloc fails at will, and counts the memory that is kept. counting_port.h counts what the port
+ * does. */
 #define _GNU_SOURCE
 #include "zaulinte_monitor.h"
 #include <inttypes.h>

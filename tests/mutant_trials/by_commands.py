@@ -14,7 +14,7 @@ from .edits import edit_of, planted
 FAULT = 'the tests pass with'
 AT_ONCE = 2
 SECONDS = 600
-LEFT_OUT = ('.git', 'out', 'target', 'build')  # what is built, too
+LEFT_OUT = ('.git', 'out', 'target')  # what is built, too
 
 
 def copied(top, copy):

@@ -24,10 +24,13 @@ static const struct {
 } logs[] = {
     {&elevator, "", LOG(HAS_5, ASK(1, 3, DOWN), ASK(2, 7, UP), GIVE(0), TAKE(2, 7, UP), GIVE(2), TAKE(1, 3, DOWN),
                         GIVE(1), ASK(3, 2, AT_ONCE), TAKE(3, 2, UP), GIVE(3))},
-    {&elevator, "", LOG(HAS_5, ASK(1, 7, UP), ASK(2, 7, UP), GIVE(0), TAKE(1, 7, UP), ASK(3, 7, DOWN), GIVE(1),
-                        TAKE(2, 7, UP), GIVE(2), TAKE(3, 7, DOWN), GIVE(3))},
+    {&elevator, "", LOG(HAS_5, ASK(1, 7, UP), ASK(2, 7, UP), GIVE(0), TAKE(1, 7, UP), ASK(3, 7, DOWN), ASK(4, 9, UP),
+                        GIVE(1), TAKE(2, 7, UP), GIVE(2), TAKE(4, 9, UP), ASK(5, 9, DOWN), GIVE(4), TAKE(5, 9, DOWN),
+                        GIVE(5), TAKE(3, 7, DOWN), GIVE(3))},
     {&elevator_of_1974, "", LOG(HAS_5, ASK(1, 7, UP), ASK(2, 5, UP), GIVE(0), TAKE(2, 5, UP), ASK(3, 5, UP), GIVE(2),
                                 TAKE(3, 5, UP), GIVE(3), TAKE(1, 7, UP), GIVE(1))},
+    {&elevator_of_1974, "", LOG(HAS_5, ASK(1, 3, DOWN), GIVE(0), TAKE(1, 3, DOWN), ASK(2, 3, DOWN), ASK(3, 1, DOWN),
+                                GIVE(1), TAKE(2, 3, DOWN), GIVE(2), TAKE(3, 1, DOWN), GIVE(3))},
     {&first_come, "", LOG(HAS_5, ASK(1, 7, UP), ASK(2, 6, UP), GIVE(0), TAKE(1, 7, UP), GIVE(1), TAKE(2, 6, UP),
                           GIVE(2))},
 

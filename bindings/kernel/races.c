@@ -1,8 +1,8 @@
 /* Races between the kernel's own parts, each made likely: a thread that is joined while it ends, a handler that is
- * removed while it runs, and two threads that allocate memory at once. They need a second core. */
+ * removed while it runs, and threads that allocate memory at once. They need a second core. */
 #include "kernel.h"
 
-enum { JOINS = 50, REMOVALS = 10, ROUNDS = 500, EACH = 8 };
+enum { JOINS = 50, REMOVALS = 10, ALLOCATORS = 12, BLOCKS = 100, MILLISECONDS = 100 };
 size_t zaulinte_room_used(void); /* ../c/zaulinte_heap.c */
 
 /* A thread ends while another sleeps until it has: so after it has set `done` it wakes that sleeper, by an interrupt of
@@ -52,34 +52,28 @@ static void remove_running_handlers(void) {
     }
 }
 
-/* Returns once both threads have called it so many times. */
-static void meet(uint32_t times) {
-    static _Atomic uint32_t calls;
-    atomic_fetch_add(&calls, 1);
-    while (atomic_load(&calls) < 2 * times) relax();
-}
-static void *allocate_at_once(void *mark) {
-    for (uint32_t i = 0; i < ROUNDS; i++) {
-        void **block[EACH];
-        meet(2 * i + 1);
-        for (int k = 0; k < EACH; k++) {
-            struct tried got = rattle_alloc(sizeof *block[k], 8);
-            if (!got.is) fail("no memory in round %u", i);
-            block[k] = got.at;
-            *block[k] = mark;
+/* More threads than cores, so one may be preempted while it allocates, or another core may allocate meanwhile. */
+static int64_t until;
+static void *allocate_and_free(void *mark) {
+    while (nanoseconds() < until) {
+        void **block[BLOCKS];
+        int many = 0;
+        for (struct tried got; many < BLOCKS && (got = rattle_alloc(sizeof *block[0], 8)).is; many++) {
+            block[many] = got.at;
+            *block[many] = mark;
         }
-        meet(2 * i + 2);
-        for (int k = 0; k < EACH; k++) {
-            if (*block[k] != mark) fail("two threads were given the same memory");
-            rattle_dealloc(block[k]);
+        while (many--) {
+            if (*block[many] != mark) fail("two threads were given the same memory");
+            rattle_dealloc(block[many]);
         }
     }
     return NULL;
 }
-static void allocate_by_two_threads(void) {
-    thread *by[2];
-    start_threads(by, 2, allocate_at_once);
-    join_threads(by, 2);
+static void allocate_by_many_threads(void) {
+    thread *by[ALLOCATORS];
+    until = nanoseconds() + MILLISECONDS * 1000000ll;
+    start_threads(by, ALLOCATORS, allocate_and_free);
+    join_threads(by, ALLOCATORS);
     if (zaulinte_room_used()) fail("all memory was freed, but %lu bytes are used", zaulinte_room_used());
 }
 void run_races(void) {
@@ -87,8 +81,8 @@ void run_races(void) {
     int64_t from = nanoseconds();
     join_ending_threads();
     remove_running_handlers();
-    allocate_by_two_threads();
-    say("races: %d threads joined while they ended, %d handlers removed while they ran, %d blocks of memory\n",
-        JOINS, REMOVALS, 2 * ROUNDS * EACH);
-    say("  each right, in %ld ms\n", (nanoseconds() - from) / 1000000);
+    allocate_by_many_threads();
+    say("races: %d threads joined while they ended, %d handlers removed while they ran, %d threads that\n",
+        JOINS, REMOVALS, ALLOCATORS);
+    say("  allocated, each right, in %ld ms\n", (nanoseconds() - from) / 1000000);
 }

@@ -8,6 +8,7 @@ static struct {
     uint64_t now;
 } alarms;
 static zaulinte_bell owed; /* the number of the timer's ticks that the clock hasn't made yet */
+static uint64_t owed_in_all;
 static _Atomic bool is_over;
 static _Atomic uint64_t late, sleeps;
 static uint64_t interrupts, shut; /* calls of the handler that ticks itself; how often the monitor wasn't free */
@@ -36,13 +37,17 @@ static void *tick_what_is_owed(void *unused) {
     }
     return unused;
 }
-static void wake_hand(void) { /* the handler changes a word, and wakes the thread */
+static void owe_tick(void) {
+    owed_in_all++;
     atomic_fetch_add(&owed.word, 1);
+}
+static void wake_hand(void) { /* the handler changes a word, and wakes the thread */
+    owe_tick();
     wake_one(&owed);
 }
 static void tick_or_wake(void) { /* the handler tries to enter */
     interrupts++;
-    atomic_fetch_add(&owed.word, 1);
+    owe_tick();
     if (zaulinte_try_enter(&alarms.m, HANDLER)) shut++, wake_one(&owed);
     else tick_and_leave(HANDLER);
 }
@@ -66,7 +71,8 @@ static void *ask_the_time(void *unused) { /* so that the handler finds the monit
 }
 static void run_by(const char *name, void (*handler)(void)) {
     thread *by[SLEEPERS];
-    alarms.now = 0;
+    alarms.now = owed_in_all = 0;
+    owed.word = 0;
     late = sleeps = 0;
     is_over = false;
     CHECK(zaulinte_make(&alarms.m, PLACES, 1, 0));
@@ -82,6 +88,8 @@ static void run_by(const char *name, void (*handler)(void)) {
     tick_by(NULL);
     join_thread(asker);
     if (late || sleeps != SLEEPERS * SLEEPS) fail("the alarm clock: %lu sleeps, late by %lu", sleeps, late);
+    if (alarms.now + owed.word != owed_in_all)
+        fail("the alarm clock made %lu ticks and owes %u, of %lu", alarms.now, owed.word, owed_in_all);
     say("alarm clock, ticked by %s: %lu sleeps, none late by the clock, in %ld ms\n", name, sleeps, took / 1000000);
     CHECK(zaulinte_free(&alarms.m));
 }

@@ -89,6 +89,7 @@ static void act(uint32_t way) {
     else CHECK(zaulinte_leave(&hall.m, HANDLER));
 }
 static void visit(void) { /* in the handler */
+    must_be(caller(), (uintptr_t)this_core(), "the caller in a handler");
     uint64_t refused = zaulinte_try_enter(&hall.m, HANDLER);
     if (refused) {
         must_be(refused, ZAULINTE_NOT_FREE, "try_enter");

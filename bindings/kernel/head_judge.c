@@ -11,7 +11,7 @@ typedef struct {
 static struct {
     const head_rule *rule;
     asked by[WORKERS]; /* in the order in which they asked */
-    uint32_t many, has, at, sweep, last, asks, grants;
+    uint32_t many, has, at, sweep, last;
     uint32_t stay; /* by the log, the number of waiting requests that are due at the cylinder under the head */
     bool handed; /* the drive came back while others waited */
 } trial;
@@ -34,7 +34,6 @@ static void asks(unsigned line, event e) {
     must(trial.has != e.place, line, "it asks for what it has");
     must((e.on == AT_ONCE) == (trial.has == WORKERS), line, "it waits for a drive that is in, or doesn't wait");
     trial.by[trial.many++] = (asked){e.place, e.cylinder, sweep, e.on};
-    trial.asks++;
 }
 static void gives(unsigned line, event e) {
     must(trial.has == e.place, line, "it gives what it hasn't");
@@ -71,7 +70,6 @@ static void takes(unsigned line, event e) {
     uint32_t stay = count_stay();
     if (trial.rule == &elevator && stands) must(stay + 1 == trial.stay, line, "another joined those that were due");
     trial.stay = stay;
-    trial.grants++;
 }
 void judge_head(const head_rule *rule, uint32_t last) {
     memset(&trial, 0, sizeof trial);
@@ -83,7 +81,6 @@ void judge_head(const head_rule *rule, uint32_t last) {
         (e.what == ASKS ? asks : e.what == GIVES ? gives : takes)(i, e);
     }
     must(trial.many == 0 && trial.has == WORKERS, head_events.many, "a request is left");
-    must(trial.grants == trial.asks, head_events.many, "not all were granted");
 }
 
 /* figures */

@@ -127,6 +127,14 @@ static inline void check(uint64_t code, const char *call) {
     if (code) fail("%s: %s", call, zaulinte_text(code));
 }
 
+/* memory.c: the archive's memory */
+struct tried {
+    bool is;
+    void *at;
+};
+struct tried rattle_alloc(size_t bytes, size_t align);
+void rattle_dealloc(void *at);
+
 /* disk.c: the first ATA drive. For one thread at a time, as the disk head ensures. */
 enum { SECTOR = 512 };
 typedef struct disk_size {
@@ -138,6 +146,7 @@ void read_disk(uint32_t block, void *to);
 
 /* the programs, in the order in which main.c runs them */
 void run_handlers(void);
+void run_races(void);
 void run_registers(void);
 void run_clock(void);
 void run_head(void);

@@ -41,6 +41,7 @@ void run_all(void) {
     run_example("time_limit.c", time_limit_main);
     run_stress();
     run_handlers();
+    run_races();
 #ifdef PLAIN
     run_registers();
 #else

@@ -2,8 +2,6 @@
 #![tactic(auto)]
 
 mod no_report;
-#[cfg(test)]
-mod tests;
 
 ghost use Rattle.std.specs.Prelude.{◌≡◌, map, ok_or};
 ghost use Rattle.std.specs.Process.{exit_status};

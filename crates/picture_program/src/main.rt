@@ -3,8 +3,6 @@
 #![tactic(auto)]
 
 mod request;
-#[cfg(test)]
-mod tests;
 
 ghost use Rattle.std.specs.Prelude.{◌≡◌};
 ghost use Rattle.std.specs.Process.{exit_status};

@@ -2,8 +2,6 @@
 #![tactic(auto)]
 
 mod not_answered;
-#[cfg(test)]
-mod tests;
 
 ghost use Rattle.std.specs.Prelude.{◌≡◌};
 ghost use Rattle.std.specs.Process.{exit_status};

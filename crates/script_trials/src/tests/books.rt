@@ -1,36 +1,62 @@
-//! Tests of the book, step by step.
-mod agreeing;
-mod bounds;
-mod filling;
-mod sized;
-mod steps;
-mod texts;
-
+//! Tests of the book: its calls once, the texts of refusals, and that its steps end.
 use crate::tests::compared::expect_same;
-use crate::tests::past::Past;
-use std::alloc::AllocError;
-use std::panic::Expect;
-use std::process::Abort;
+use crate::tests::shown::reads;
+use hoare_law::waits::Waits;
+use std::test::Fail;
 use wait_book::book::Book;
-use wait_book::steps::Step;
+use wait_book::steps::{MakeRefused, Next, Step, StepRefused};
 
-// Creates a book with these sizes, in which nothing has happened. Fails the test if it is refused.
-fn made<R: Abort + AllocGlobal>(rt: &R, places: usize, conditions: usize, mesa: usize) -> Book {
-    Book::make(rt.alloc(), places, conditions, mesa).expect(rt, "a book")
+#[test]
+fn a_book_in_use_answers(rt: HostRuntime) -> Result<(), Fail> {
+    let mut book = Book::make(rt.alloc(), 4, 2, 0)?;
+    let answers = [
+        book.try_step(Step::Enter(0)),
+        book.try_step(Step::Wait(0, 1, 9)),
+        book.try_step(Step::Enter(1)),
+        book.try_step(Step::Wait(1, 1, 2)),
+        book.try_step(Step::Enter(2)),
+    ];
+    let wanted = [
+        Ok(Next::Held(0)),
+        Ok(Next::Free),
+        Ok(Next::Held(1)),
+        Ok(Next::Free),
+        Ok(Next::Held(2)),
+    ];
+    expect_same(&rt, answers, wanted);
+    let found = (book.now(), book.outside(3), book.outside(1));
+    expect_same(&rt, found, (Next::Held(2), true, false));
+    let waits = (book.queue(0), book.queue(1), book.first(1));
+    expect_same(&rt, waits, (false, true, Some(2)));
+    expect_same(&rt, (book.count(0), book.count(1)), (0, 2));
+    expect_same(&rt, book.priority(1, 1), 9);
+    Ok(())
 }
 
-// Does the step with this number on the book and on the list of events, and fails if their answers differ. If all
-// places are then outside, the list is cleared.
-fn answer_alike<R: Abort>(
-    rt: &R,
-    number: u64,
-    step: Step,
-    book: &mut Book,
-    past: &mut Past,
-) -> Result<(), AllocError> {
-    let found = book.try_step(step);
-    let (wanted, _) = past.step(step)?;
-    expect_same(rt, (number, found), (number, wanted));
-    past.forget_at_rest();
-    Ok(())
+#[test]
+fn making_is_refused_plainly(rt: HostRuntime) {
+    reads(&rt, &MakeRefused::BadPlaces, "a monitor has 1 to 64 places");
+    reads(
+        &rt,
+        &MakeRefused::BadConditions,
+        "a monitor has 1 to 8 conditions, and no more Mesa conditions",
+    );
+    reads(&rt, &MakeRefused::Memory, "out of memory");
+}
+
+// Refusals, and the text of each.
+const REFUSALS: &[(StepRefused, &str)] = &[
+    (StepRefused::NoPlace, "there is no such place"),
+    (StepRefused::NotFree, "the monitor isn't free"),
+    (StepRefused::NotOutside, "the place waits on a condition"),
+    (StepRefused::NotInside, "the place isn't inside"),
+    (StepRefused::NoCondition, "there is no such condition"),
+    (StepRefused::WrongKind, "the condition is of the other kind"),
+];
+
+#[test]
+fn steps_are_refused_plainly(rt: HostRuntime) {
+    for (refused, text) in REFUSALS {
+        reads(&rt, refused, *text);
+    }
 }

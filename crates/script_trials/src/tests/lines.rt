@@ -1,7 +1,4 @@
-//! Tests of lines, words and numbers of texts.
-mod forms;
+//! Tests of lines of texts.
 mod last_line;
-mod lines;
 mod texts;
 mod watching;
-mod words;

@@ -1,5 +1,4 @@
 //! Tests of a script that is cut off, a reader that fails and writers that fail, at each byte.
-use super::told;
 use crate::tests::compared::expect_same;
 use crate::tests::streams::{Breaking, Filling};
 use hoare_script::{ScriptFault, run};
@@ -51,7 +50,9 @@ fn script_cut_at_each_byte(rt: HostRuntime) -> Result<(), Fail> {
     for length in 0..=66usize {
         let script = SCRIPT.get(..length).ok_or("a shorter script")?;
         let (wanted, lines) = at_cut(length);
-        let (result, written) = told(rt.alloc(), script);
+        let mut reader = script;
+        let mut written = Vec::new(rt.alloc());
+        let result = run(rt.alloc(), &mut reader, &mut written);
         let found = (length, result, written.as_slice());
         expect_same(&rt, found, (length, wanted, answers_to(lines)));
     }
@@ -71,8 +72,8 @@ fn lines_ended(length: usize) -> usize {
     }
 }
 
-/// Runs a script whose reader fails after its last byte, and fails if the end or the answers differ.
-pub fn breaks<R: Abort + AllocGlobal>(
+// Runs a script whose reader fails after its last byte, and fails if the end or the answers differ.
+fn breaks<R: Abort + AllocGlobal>(
     rt: &R,
     script: &[u8],
     wanted: Result<(), ScriptFault>,
@@ -119,4 +120,12 @@ fn script_writer_fails(rt: HostRuntime) -> Result<(), Fail> {
     fills(&rt, 90, true, (Ok(()), ANSWERS));
     fills(&rt, 90, false, (Ok(()), ANSWERS));
     Ok(())
+}
+
+// The 257th byte makes the line too long. If the reader gives only 256 bytes, it fails first.
+#[test]
+fn endless_line(rt: HostRuntime) {
+    let bytes = [b'e'; 257];
+    breaks(&rt, &bytes, Err(ScriptFault::LineTooLong(1)), b"");
+    breaks(&rt, &bytes[..256], Err(ScriptFault::ReadFault), b"");
 }

@@ -1,32 +1,24 @@
-// The worked rows of scripts: the tests of crates/script_trials, each a header and lines with their answers.
+// The worked rows of scripts: those of tests/script_rows, each a header and lines with their answers.
 import { readFileSync } from "node:fs";
 
-const FOLDER = new URL("../../crates/script_trials/src/tests/scripts/", import.meta.url);
-const MADE = "sixty_three_priorities"; // its lines are made there by loops, and here
+const FILE = new URL("../../tests/script_rows/answers.txt", import.meta.url);
+const MADE = "sixty_three_priorities"; // tests/scripts computes it, and here it is computed too
 
-// Returns the text of a literal of Rattle: "\n" is the end of a line, and a backslash before one joins two lines.
-const literal = (text) => text.replace(/\\\n\s*/g, "").replaceAll("\\n", "\n");
-
-// Returns the row of a test that has its lines and their answers in one text.
-function row_of_rows(name, body) {
-    const [, header, inner] = body.match(/check\(&rt, "([^"]*)", (?:rows|"([^"]*)")\)/) ?? [];
-    const text = inner ?? body.match(/let rows = "([^"]*)"/)?.[1];
-    if (!header || !text) throw new Error(`the test ${name} of script_trials has another form: mend rows.mjs`);
-    return { name, header, steps: literal(text).trim().split("\n").map((it) => it.split(" -> ")) };
+// Returns the row of a block: its name, and lines with their answers. A line that begins with `= ` is the fault, which
+// the last line of the script has.
+function row_of(block) {
+    const [name, ...lines] = block.split("\n").filter((it) => it && !it.startsWith("#"));
+    const [fault] = lines.filter((it) => it.startsWith("= "));
+    const script = lines.filter((it) => it !== fault).join(" ").split("; ");
+    const [header, ...steps] = script.map((it) => it.split(" -> "));
+    if (!fault) return { name, header: header[0], steps };
+    const [, kind, line] = fault.match(/fault \d+ (\w+) line (\d+)/);
+    return { name, header: header[0], steps: steps.slice(0, -1), last: steps.at(-1)[0], fault: `${kind}, line ${line}` };
 }
 
-// Returns the row of a test that has a script and answers, which end at a fault.
-function row_of_script(name, body) {
-    const [script, answers] = [...body.matchAll(/b"([^"]*)"/g)].map((it) => literal(it[1]).trim().split("\n"));
-    const [, fault, line] = body.match(/ScriptFault::(\w+)\((\d+)\)/);
-    const steps = answers.map((it) => it.split(" -> "));
-    return { name, header: script[0], steps, last: script.at(-1), fault: `${fault}, line ${line}` };
-}
-
-function rows_of(file) {
-    const tests = readFileSync(new URL(file, FOLDER), "utf8").split("#[test]\n").slice(1);
-    const named = tests.map((it) => [it.match(/fn (\w+)/)[1], it]).filter(([name]) => name !== MADE);
-    return named.map(([name, body]) => (body.includes("let script") ? row_of_script : row_of_rows)(name, body));
+function rows_of() {
+    const blocks = readFileSync(FILE, "utf8").split("\n== ").slice(1);
+    return blocks.filter((it) => !it.includes("\n! ")).map(row_of); // those with `! ` have no answers
 }
 
 // Places 0 to 62 wait with the priorities 62 to 0, and place 63 resumes them from 62 down to 0. The page has answers of
@@ -39,7 +31,7 @@ function most_priorities() {
     return { name: MADE, header: "monitor 64 8", steps, is_large: true };
 }
 
-export const ROWS = [...rows_of("rows.rt"), ...rows_of("mesa_rows.rt"), most_priorities()];
+export const ROWS = [...rows_of(), most_priorities()];
 
 export const text_of = ({ header, steps, last }) =>
     [header, ...steps.map(([line]) => line), ...(last ? [last] : [])].join("\n");

@@ -1,4 +1,5 @@
-# For the scripts beside it: how much of the processors' time the machine's host took meanwhile, and busy threads.
+# For the scripts beside it: how much of the processors' time the machine's host took meanwhile, busy threads, and
+# medians.
 
 # mark_time: begins a measure of the stolen time
 mark_time() { marked=$(awk '/^cpu / { for (i = 2; i <= 9; i++) all += $i; print $9, all }' /proc/stat); }
@@ -27,3 +28,13 @@ start_busy() {
 
 # beside_what: prints the words for the busy threads in a table's head
 beside_what() { [ "${busy:-0}" = 0 ] || printf ', %s busy beside it' "$busy"; }
+
+# words of awk: median_of(v, key) returns the median of v[key, 1] to v[key, n[key]], and leaves the least in `least`
+median_of='
+    function median_of(v, key,   i, j, t, m) {
+        m = n[key]
+        for (i = 1; i <= m; i++) s[i] = v[key, i] + 0
+        for (i = 2; i <= m; i++) for (j = i; j > 1 && s[j - 1] > s[j]; j--) { t = s[j]; s[j] = s[j - 1]; s[j - 1] = t }
+        least = s[1]
+        return m % 2 ? s[(m + 1) / 2] : (s[m / 2] + s[m / 2 + 1]) / 2
+    }'

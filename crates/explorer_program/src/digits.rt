@@ -1,9 +1,11 @@
-//! Threads that append their digits to a number, so that the number left shows the order. The last order is bad.
+//! Threads that append their digits to a number, so that the number left shows the order. Of two programs the last order
+//! is bad.
 //!
 //! The first order goes round the places, and each next order changes the last choice that has a place left. So in the
 //! last order each choice admits the last place of the row that begins after the latest place: the latest place itself,
 //! if it is to enter, and else the place before it. With four threads of two visits that is 3, 3, 2, 2, 1, 1, 0, 0, and
-//! there are 8! / 2^4 = 2520 orders. With five threads of one visit it is 4, 3, 2, 1, 0, and there are 5! = 120 orders.
+//! there are 8! / 2^4 = 2520 orders. With five threads of one visit it is 4, 3, 2, 1, 0, and there are 5! = 120 orders:
+//! the last thread finds 5432. Three threads of two visits have 6! / 2^3 = 90 orders, none of them bad.
 
 use crate::tally::Tally;
 use hoare_law::monitor::{Monitor, PLAIN};
@@ -11,9 +13,6 @@ use std::sync::Wait;
 
 /// The number that four threads of two visits leave in their last order.
 pub const LAST_OF_FOUR: u64 = 44_332_211;
-
-/// The number that the last of five threads of one visit finds in their last order.
-pub const ONE_LEFT_OF_FIVE: u64 = 5_432;
 
 /// Makes `visits` visits, and in each appends the digit `number` + 1 to the digits that it finds. If it finds the
 /// digits `bad`, it waits first, and no process signals it.

@@ -1,50 +1,33 @@
-//! A gate whose opener notifies one waiter, but should notify all of them.
+//! A gate on a Mesa condition. If its opener notifies one waiter, another may wait for ever; it has to notify all.
 
-use crate::mesa_gate::MesaGate;
-use hoare_law::monitor::Monitor;
-use order_explorer::{Explored, Place, Program};
-use std::alloc::Global;
+use crate::tally::{MESA, Tally};
+use hoare_law::monitor::{Monitor, PLAIN};
 use std::sync::Wait;
 
-/// Places 0 and 1 pass the gate, and place 2 opens it.
-#[derive(Clone, Copy)]
-pub struct OneCalled;
-
-// Does the part of the thread with this number.
-fn acts<R: Wait, M: Monitor<MesaGate>>(rt: &R, m: &M, out: M::Out, number: usize) -> (M::Out, u64)
+/// Does the part of thread `number`: places 0 and 1 pass the gate, and first wait if it is shut (0); place 2 opens it
+/// (1), and notifies all waiters or, if not `all`, one.
+pub fn pass_or_notify<R: Wait, M: Monitor<Tally>>(
+    rt: &R,
+    m: &M,
+    out: M::Out,
+    number: usize,
+    all: bool,
+) -> M::Out
     requires { M.is_of m.now out }
-    ensures { M.is_of m.now result.0 }
+    ensures { M.is_of m.now result }
 {
+    let mut inside = m.enter(rt, out);
     if number < 2 {
-        (MesaGate::pass(m, rt, out), 0)
+        if m.state(&inside).value == 0 {
+            inside = m.wait(rt, inside, MESA, PLAIN);
+        }
+        return m.leave(rt, inside);
+    }
+    M::state_mut(&mut inside, m).value = 1;
+    if all {
+        m.broadcast(&mut inside, MESA);
     } else {
-        (MesaGate::open_to_one(m, rt, out), 0)
+        m.notify(&mut inside, MESA);
     }
-}
-
-impl Program<MesaGate, Explored<MesaGate>> for OneCalled {
-    fn threads(&self) -> usize {
-        3
-    }
-
-    fn open(&self, _alloc: Global) -> Option<MesaGate> {
-        Some(MesaGate { is_open: false })
-    }
-
-    fn act<R: Wait>(
-        &self,
-        rt: &R,
-        m: &Explored<MesaGate>,
-        out: Place<MesaGate>,
-        number: usize,
-    ) -> (Place<MesaGate>, u64)
-        requires { ⟦<Explored<MesaGate> as Monitor<MesaGate>>⟧.is_of m.now out }
-        ensures { ⟦<Explored<MesaGate> as Monitor<MesaGate>>⟧.is_of m.now result.0 }
-    {
-        acts(rt, m, out, number)
-    }
-
-    fn is_right(&self, _left: &MesaGate, _answers: &[u64]) -> bool {
-        true
-    }
+    m.leave(rt, inside)
 }

@@ -18,11 +18,21 @@ pub struct Outcome {
 impl Outcome {
     /// Creates the outcome of an exploration that found `found`. Refuses if an allocation fails.
     pub fn of(alloc: Global, found: &Found) -> io::Result<Outcome> {
-        Ok(Outcome {
-            words: words_of(alloc, found)?,
-            script: script_of(alloc, found)?,
-            ending: ending_of(found),
-        })
+        let mut words = String::new(alloc);
+        add_words(&mut words, found)?;
+        let mut outcome = Outcome {
+            words,
+            script: String::new(alloc),
+            ending: None,
+        };
+        if let Some(last) = found.schedule() {
+            outcome.script = last.script(alloc)?;
+            if !matches!(found, Found::Limit(..)) {
+                outcome.ending = Some(last.ending);
+                add_left(&mut outcome.words, alloc, last)?;
+            }
+        }
+        Ok(outcome)
     }
 
     /// Returns true if the last runs of both explorations ended alike, with the same script.
@@ -31,40 +41,11 @@ impl Outcome {
     }
 }
 
-// Returns the bad run, if the exploration found one.
-fn bad_of(found: &Found) -> Option<&Schedule> {
-    match found {
-        Found::Limit(..) => None,
-        _ => found.schedule(),
-    }
-}
-
-// Returns how the bad run ended, if the exploration found one.
-fn ending_of(found: &Found) -> Option<Ending> {
-    match bad_of(found) {
-        Some(bad) => Some(bad.ending),
-        None => None,
-    }
-}
-
-// Returns the script of the last run, or an empty text if there is no such run.
-fn script_of(alloc: Global, found: &Found) -> Result<String, AllocError> {
-    match found.schedule() {
-        Some(schedule) => schedule.script(alloc),
-        None => Ok(String::new(alloc)),
-    }
-}
-
-// Returns the outcome in words: of a bad run also its number, and what its threads do.
-fn words_of(alloc: Global, found: &Found) -> Result<String, AllocError> {
-    let mut words = String::new(alloc);
-    add_words(&mut words, found)?;
-    if let Some(bad) = bad_of(found) {
-        let run = bad.run;
-        writeln!(words, ", in run {run}")?;
-        words.push_str(bad.left(alloc)?.as_str())?;
-    }
-    Ok(words)
+// Adds the number of a bad run, and what its threads do.
+fn add_left(words: &mut String, alloc: Global, bad: &Schedule) -> Result<(), AllocError> {
+    let run = bad.run;
+    writeln!(words, ", in run {run}")?;
+    words.push_str(bad.left(alloc)?.as_str())
 }
 
 // Adds the outcome in words, without the run.

@@ -1,20 +1,16 @@
-//! The philosophers' table of the cookbook: three neighbours eat. The two outer philosophers may take turns, so that
-//! the philosopher between them waits.
+//! The philosophers' table of the cookbook: three neighbours eat. The two outer philosophers may take turns, so that the
+//! philosopher between them waits.
 ghost use Rattle.std.specs.Prelude.{◌<◌};
 
-use crate::answers::all_one;
 use cookbook::table::Table;
 use hoare_law::monitor::Monitor;
 use order_explorer::{Explored, Place, Program};
 use std::alloc::Global;
 use std::sync::Wait;
 
-/// The philosophers at the seats 0, 1 and 2. The philosopher at seat 1 eats once.
+/// The philosophers at the seats 0, 1 and 2. The philosopher at seat 1 eats once, and the two others three times.
 #[derive(Clone, Copy)]
-pub struct Supper {
-    /// The number of meals of each of the two others.
-    pub meals: u32,
-}
+pub struct Supper;
 
 // Eats `meals` times. The answer is 1, or 0 if the last `get_up` was refused or `meals` is 0.
 fn eat<R: Wait, M: Monitor<Table>>(
@@ -58,11 +54,11 @@ impl Program<Table, Explored<Table>> for Supper {
         requires { ⟦<Explored<Table> as Monitor<Table>>⟧.is_of m.now out }
         ensures { ⟦<Explored<Table> as Monitor<Table>>⟧.is_of m.now result.0 }
     {
-        let meals = if number == 1 { 1 } else { self.meals };
+        let meals = if number == 1 { 1 } else { 3 };
         eat(rt, m, out, number % 5, meals)
     }
 
     fn is_right(&self, _left: &Table, answers: &[u64]) -> bool {
-        all_one(answers)
+        !answers.contains(&0)
     }
 }

@@ -1,33 +1,70 @@
 //! Programs over a number of which nothing is required. What the threads of each program do is in its own file.
 
-use crate::answers::sum_of;
-use crate::counting::visit;
-use crate::digits::{LAST_OF_FOUR, ONE_LEFT_OF_FIVE, write_digits};
+use crate::digits::{LAST_OF_FOUR, write_digits};
 use crate::gate::pass_or_open;
 use crate::hidden_state::{visit_again, visit_by_turns};
 use crate::lost_update::add_late;
-use crate::signals::pair_up;
+use crate::lost_wake::pass_or_notify;
 use crate::starving::dance;
-use crate::trying::{is_tried, try_or_ask};
+use crate::trying::try_or_ask;
+use hoare_law::data::MonitorData;
 use hoare_law::monitor::Monitor;
-use hoare_law::unconstrained::Unconstrained;
+use hoare_law::waits::Waits;
 use order_explorer::{Explored, Place, Program};
 use std::alloc::{AllocError, Global};
 use std::sync::Wait;
 use std::sync::atomic::AtomicU64;
 
-/// A number of which nothing is required, with one condition.
-pub type Tally = Unconstrained<u64, 1>;
+/// The Mesa condition of a tally. Condition 0 is Hoare's.
+pub const MESA: usize = 1;
+
+/// A number of which nothing is required, with a condition of each kind.
+#[derive(Drop)]
+pub struct Tally {
+    /// The number.
+    pub value: u64,
+}
+
+impl MonitorData for Tally {
+    ghost use Rattle.std.specs.Prelude.{⊤};
+
+    const CONDITIONS: usize = 2;
+
+    ghost CONDITIONS = { 2 };
+
+    const MESA: usize = 1;
+
+    ghost MESA = { 1 };
+
+    ghost inv = { λ t. ⊤ };
+
+    ghost rest = { λ t q. ⊤ };
+
+    ghost ready = { λ c p t q. ⊤ };
+
+    fn rest_holds<W: Waits>(&self, _lists: &W) -> bool {
+        true
+    }
+
+    fn ready_holds<W: Waits>(&self, _condition: usize, _priority: u64, _lists: &W) -> bool {
+        true
+    }
+
+    ghost rest_inv = { λ t q h. tt };
+
+    ghost ready_inv = { λ c p t q h. tt };
+}
 
 /// What the threads do over a tally.
 #[derive(Clone, Copy)]
 pub enum OfTally {
-    /// This many threads enter and leave, this many times each.
-    Visits(usize, u32),
-    /// Four threads visit once: each second thread signals the waiter, and resumes after it.
-    Signals,
+    /// This many threads visit this many times each, and append their digits. If a thread finds this number, it waits.
+    /// The last order of four threads of two visits is wrong.
+    Digits(usize, u32, Option<u64>),
     /// Places 0 and 1 pass a gate that place 2 opens.
-    Late,
+    Gate,
+    /// Places 0 and 1 pass a gate that place 2 opens: it notifies all waiters if this is true, else one.
+    Called(bool),
     /// Of this many threads the first two resume each other, the last waits to be resumed, and the others visit once.
     Dance(usize),
     /// Two threads add 1 each, in two visits.
@@ -36,12 +73,8 @@ pub enum OfTally {
     Hidden,
     /// Two of three threads visit, and in each second run another two.
     HiddenOthers,
-    /// Places 1 and 2 attempt to enter. Place 0 waits if neither has visited before it, or, if this is true, always.
-    Try(bool),
-    /// Four threads visit twice. Their last order is wrong.
-    WrongLast,
-    /// Five threads visit once. In their last order the thread that enters last waits.
-    StuckLast,
+    /// Place 0 waits at a gate. Places 1 and 2 open it, and then attempt to enter.
+    Try,
 }
 
 /// A program over a tally: what its threads do, and the number of runs in which its first thread has run. Only
@@ -75,35 +108,28 @@ fn acts<R: Wait, M: Monitor<Tally>>(
     out: M::Out,
     number: usize,
     program: &Tallied,
-) -> (M::Out, u64)
+) -> M::Out
     requires { M.is_of m.now out }
-    ensures { M.is_of m.now result.0 }
+    ensures { M.is_of m.now result }
 {
     match program.acts {
-        OfTally::Visits(_, visits) => (visit(rt, m, out, visits), 0),
-        OfTally::Signals => (pair_up(rt, m, out), 0),
-        OfTally::Late => (pass_or_open(rt, m, out, number), 0),
-        OfTally::Dance(threads) => (dance(rt, m, out, number, threads), 0),
+        OfTally::Digits(_, visits, bad) => write_digits(rt, m, out, visits, number, bad),
+        OfTally::Gate => pass_or_open(rt, m, out, number),
+        OfTally::Called(all) => pass_or_notify(rt, m, out, number, all),
+        OfTally::Dance(threads) => dance(rt, m, out, number, threads),
         OfTally::Lost => add_late(rt, m, out),
-        OfTally::Hidden => (visit_again(rt, m, out, number, &program.runs), 0),
-        OfTally::HiddenOthers => (visit_by_turns(rt, m, out, number, &program.runs), 0),
-        OfTally::Try(always) => try_or_ask(rt, m, out, number, always),
-        OfTally::WrongLast => (write_digits(rt, m, out, 2, number, None), 0),
-        OfTally::StuckLast => (
-            write_digits(rt, m, out, 1, number, Some(ONE_LEFT_OF_FIVE)),
-            0,
-        ),
+        OfTally::Hidden => visit_again(rt, m, out, number, &program.runs),
+        OfTally::HiddenOthers => visit_by_turns(rt, m, out, number, &program.runs),
+        OfTally::Try => try_or_ask(rt, m, out, number),
     }
 }
 
 impl Program<Tally, Explored<Tally>> for Tallied {
     fn threads(&self) -> usize {
         match self.acts {
-            OfTally::Visits(threads, _) | OfTally::Dance(threads) => threads,
+            OfTally::Digits(threads, ..) | OfTally::Dance(threads) => threads,
             OfTally::Lost => 2,
-            OfTally::Late | OfTally::Hidden | OfTally::HiddenOthers | OfTally::Try(_) => 3,
-            OfTally::Signals | OfTally::WrongLast => 4,
-            OfTally::StuckLast => 5,
+            _ => 3,
         }
     }
 
@@ -121,20 +147,15 @@ impl Program<Tally, Explored<Tally>> for Tallied {
         requires { ⟦<Explored<Tally> as Monitor<Tally>>⟧.is_of m.now out }
         ensures { ⟦<Explored<Tally> as Monitor<Tally>>⟧.is_of m.now result.0 }
     {
-        acts(rt, m, out, number, self)
+        (acts(rt, m, out, number, self), 0)
     }
 
-    fn is_right(&self, left: &Tally, answers: &[u64]) -> bool {
+    fn is_right(&self, left: &Tally, _answers: &[u64]) -> bool {
         match self.acts {
-            OfTally::Visits(threads, visits) => {
-                left.value == (threads as u64).wrapping_mul(u64::from(visits))
-            }
-            OfTally::Signals => left.value == 110,
-            OfTally::Late | OfTally::Dance(_) | OfTally::StuckLast => true,
-            OfTally::Hidden | OfTally::HiddenOthers => true,
+            OfTally::Digits(..) => left.value != LAST_OF_FOUR,
             OfTally::Lost => left.value == 2,
-            OfTally::Try(_) => is_tried(left.value, sum_of(answers)),
-            OfTally::WrongLast => left.value != LAST_OF_FOUR,
+            OfTally::Try => left.value == 112,
+            _ => true,
         }
     }
 }

@@ -1,20 +1,13 @@
-//! What is measured with threads, over any monitor. With the loads `Alone` and `Tried` the calling thread alone works.
-//! With all others every place has a thread of its own, and the threads take their roles in the order in which they
-//! start.
+//! What the places of a counter do, over any monitor, and how long that took.
 ghost use Rattle.std.specs.Prelude.{All};
 
-use crate::fairness::{Others, count_others};
-use crate::mixed::{Mixed, mix};
-use crate::opening::last_place;
-use crate::procedures::append_remove;
-use crate::tries::{Found, tried};
-use crate::turns::{
-    add_many, append_many, link_many, pull_many, remove_many, signal_many, test_sums, wait_many,
-};
+use crate::fairness::{Others, all_met, count_others};
+use crate::mixed::{WORKERS, sweep, visit_many};
+use crate::rows::no_memory;
+use crate::tries::{try_free, try_held};
+use crate::turns::{CONDITIONS, Counter, add_many, link_many, signal_many, stay_many, wait_many};
 use baton_door::door::Door;
 use hoare_law::monitor::Monitor;
-use hoare_law::unconstrained::Unconstrained;
-use plain_schedulers::buffer::Buffer;
 use std::rt::Clock;
 use std::sync::Wait;
 use std::sync::atomic::{AtomicU64, Ordering};
@@ -23,315 +16,163 @@ use std::time::{Duration, Instant};
 use std::{io, thread};
 use ticket_door::door::TicketDoor;
 
-/// A monitor of a counter with one condition, which threads share. (A closure that goes to a thread needs a bound
-/// without a parameter, and a function that is generic over what it does can't pass a closure on. So each load has its
-/// own closure.)
-pub trait OneShared: Monitor<Unconstrained<u64, 1>> + Sync {}
+/// A monitor of a counter, which threads share. (A closure that goes to a thread needs a bound without a parameter.)
+pub trait SharedCounter: Monitor<Counter> + Sync {}
 
-impl OneShared for Door<Unconstrained<u64, 1>> {}
+impl SharedCounter for Door<Counter> {}
 
-impl OneShared for TicketDoor<Unconstrained<u64, 1>> {}
+impl SharedCounter for TicketDoor<Counter> {}
 
-/// A monitor of a counter with eight conditions, which threads share.
-pub trait EightShared: Monitor<Unconstrained<u64, 8>> + Sync {}
-
-impl EightShared for Door<Unconstrained<u64, 8>> {}
-
-impl EightShared for TicketDoor<Unconstrained<u64, 8>> {}
-
-/// A monitor of a buffer with Hoare's conditions, which threads share.
-pub trait SharedBuffer: Monitor<Buffer<u64>> + Sync {}
-
-impl SharedBuffer for Door<Buffer<u64>> {}
-
-impl SharedBuffer for TicketDoor<Buffer<u64>> {}
-
-/// A monitor of the data of `mixed`, which threads share.
-pub trait SharedMixed: Monitor<Mixed> + Sync {}
-
-impl SharedMixed for Door<Mixed> {}
-
-impl SharedMixed for TicketDoor<Mixed> {}
-
-/// What the threads of a counter with one condition do.
+/// What the places of a counter do.
 #[derive(Clone, Copy)]
-pub enum CounterLoad {
-    /// One thread enters, adds one and leaves.
-    Alone,
-    /// All threads enter, add one and leave.
-    Contended,
-    /// This many threads wait, and one more signals them.
-    Waiting(u64),
-    /// One of two places makes attempts to enter, and finds this.
-    Tried(Found),
+pub enum Load {
+    /// The calling thread does this.
+    OneThread(Solo),
+    /// Each place has a thread, which does this.
+    Threads(Act),
 }
 
-/// Lets the threads of a counter with one condition do their load, `turns` times. Returns how long that took. Returns
-/// an error if out of memory, if there is no place for `Alone` or fewer than two for `Tried`, if the clock fails, or if
-/// an attempt has the wrong result. `Waiting` has to have one place more than waiters: else it may never end.
-pub fn count_with<R: Threads + Wait + Clock + Sync, M: OneShared>(
-    rt: &R,
-    m: &M,
-    places: Vec<M::Out>,
-    load: CounterLoad,
-    turns: u64,
-) -> anyhow::Result<Duration>
-where
-    M::Lists: Send,
-    requires { All (M.is_of m.now) places.items }
-{
-    let start = Instant::now(rt)?;
-    match load {
-        CounterLoad::Alone => alone(rt, m, places, turns)?,
-        CounterLoad::Contended => contended(rt, m, places, turns)?,
-        CounterLoad::Waiting(waiters) => waiting(rt, m, places, waiters, turns)?,
-        CounterLoad::Tried(found) => return tried(rt, m, places, found, turns),
-    }
-    Ok(start.elapsed(rt)?)
-}
-
-/// What the threads of a counter with eight conditions do.
+/// What one thread does with a counter.
 #[derive(Clone, Copy)]
-pub enum WideLoad {
-    /// One thread enters, adds one and leaves.
-    Alone,
-    /// The threads are a chain of signallers.
-    Chained,
+pub enum Solo {
+    /// It enters, adds one and leaves.
+    Enter,
+    /// It makes attempts to enter while no place is inside.
+    TryFree,
+    /// It makes attempts to enter at one place while another place is inside.
+    TryHeld,
 }
 
-/// Lets the threads of a counter with eight conditions do their load, `turns` times. Returns how long that took.
-/// Returns an error if out of memory, if there is no place for `Alone`, or if the clock fails. `Chained` has to have
-/// nine places: else it may never end.
-pub fn count_widely<R: Threads + Wait + Clock + Sync, M: EightShared>(
-    rt: &R,
-    m: &M,
-    places: Vec<M::Out>,
-    load: WideLoad,
-    turns: u64,
-) -> io::Result<Duration>
-where
-    M::Lists: Send,
-    requires { All (M.is_of m.now) places.items }
-{
-    let start = Instant::now(rt)?;
-    match load {
-        WideLoad::Alone => alone(rt, m, places, turns)?,
-        WideLoad::Chained => chained(rt, m, places, turns)?,
-    }
-    start.elapsed(rt)
-}
-
-// All threads enter, add one and leave, `turns` times each.
-fn contended<R: Threads + Wait + Sync, M: OneShared>(
-    rt: &R,
-    m: &M,
-    places: Vec<M::Out>,
-    turns: u64,
-) -> io::Result<()>
-where
-    M::Lists: Send,
-    requires { All (M.is_of m.now) places.items }
-{
-    thread::map_vec(
-        rt,
-        places,
-        &|out| -> ()
-            requires { M.is_of m.now out }
-        { add_many(rt, m, out, turns) },
-    )?;
-    Ok(())
-}
-
-// The calling thread enters at the last of the places, adds one and leaves, `turns` times. Returns an error if there is
-// no place.
-fn alone<const N: usize, R: Wait, M: Monitor<Unconstrained<u64, N>>>(
-    rt: &R,
-    m: &M,
-    places: Vec<M::Out>,
-    turns: u64,
-) -> io::Result<()>
-    requires { All (M.is_of m.now) places.items }
-{
-    let out = last_place(m, places)?;
-    add_many(rt, m, out, turns);
-    Ok(())
-}
-
-// All threads but the last to start wait `turns` times each, with their number as the priority. The last thread signals
-// until all waits have ended.
-fn waiting<R: Threads + Wait + Sync, M: OneShared>(
-    rt: &R,
-    m: &M,
-    places: Vec<M::Out>,
-    waiters: u64,
-    turns: u64,
-) -> io::Result<()>
-where
-    M::Lists: Send,
-    requires { All (M.is_of m.now) places.items }
-{
-    let roles = AtomicU64::new(0);
-    thread::map_vec(
-        rt,
-        places,
-        &|out| -> ()
-            requires { M.is_of m.now out }
-        {
-            let role = roles.fetch_add(1, Ordering::SeqCst);
-            if role < waiters {
-                wait_many(rt, m, out, turns, role)
-            } else {
-                signal_many(rt, m, out, turns.saturating_mul(waiters))
-            }
-        },
-    )?;
-    Ok(())
-}
-
-// A chain of signallers, eight deep, `turns` times: the last thread to start signals the first of eight links, each
-// link but the last signals the next, and all signallers return in turn.
-fn chained<R: Threads + Wait + Sync, M: EightShared>(
-    rt: &R,
-    m: &M,
-    places: Vec<M::Out>,
-    turns: u64,
-) -> io::Result<()>
-where
-    M::Lists: Send,
-    requires { All (M.is_of m.now) places.items }
-{
-    let roles = AtomicU64::new(0);
-    thread::map_vec(
-        rt,
-        places,
-        &|out| -> ()
-            requires { M.is_of m.now out }
-        {
-            let role = roles.fetch_add(1, Ordering::SeqCst);
-            if role < 8 {
-                link_many(rt, m, out, turns, role as usize)
-            } else {
-                pull_many(rt, m, out, turns)
-            }
-        },
-    )?;
-    Ok(())
-}
-
-// Half of the threads append to a buffer, and the others remove, `turns` times each. Returns the sum of what each
-// thread removed.
-fn buffered<R: Threads + Wait + Sync, M: SharedBuffer>(
-    rt: &R,
-    m: &M,
-    places: Vec<M::Out>,
-    turns: u64,
-) -> io::Result<Vec<u64>>
-where
-    M::Lists: Send,
-    requires { All (M.is_of m.now) places.items }
-{
-    let roles = AtomicU64::new(0);
-    let sums = thread::map_vec(
-        rt,
-        places,
-        &|out| -> u64
-            requires { M.is_of m.now out }
-        {
-            if roles.fetch_add(1, Ordering::SeqCst) % 2 == 0 {
-                append_many(rt, m, out, turns);
-                0
-            } else {
-                remove_many(rt, m, out, turns)
-            }
-        },
-    )?;
-    Ok(sums)
-}
-
-/// What the threads of a buffer do.
+/// What the threads of a counter do, one at each place. They take their roles in the order in which they start.
 #[derive(Clone, Copy)]
-pub enum BufferLoad {
-    /// Half of the threads append, the others remove.
-    Shared,
-    /// One thread appends and removes in turn.
-    Alone,
+pub enum Act {
+    /// All enter, add one and leave.
+    Enter,
+    /// All enter, work inside for 0.1 ms and leave.
+    Stay,
+    /// All enter, count how many others entered since their last visit, and leave.
+    CountOthers,
+    /// This many threads wait, with their number as the priority, and one more signals them.
+    Wait(u64),
+    /// Eight threads are a chain of signallers, and a ninth signals the first whenever all wait.
+    Chain,
+    /// Eight threads wait, signal, pass and leave, and a ninth resumes waiters.
+    Mix,
 }
 
-/// Lets the threads of a buffer do their load, `turns` times each. Returns how long that took. Returns an error if out
-/// of memory, if there is no place for `Alone`, if the clock fails, or if the sum of what `Shared` removes is wrong.
-/// `Shared` has to have an even number of places: else it may never end.
-pub fn work_buffer<R: Threads + Wait + Clock + Sync, M: SharedBuffer>(
-    rt: &R,
-    m: &M,
-    places: Vec<M::Out>,
-    load: BufferLoad,
+// What the threads of a counter share beside the monitor.
+#[derive(Drop)]
+struct Team {
+    act: Act,
     turns: u64,
-) -> anyhow::Result<Duration>
-where
-    M::Lists: Send,
-    requires { All (M.is_of m.now) places.items }
-{
-    let start = Instant::now(rt)?;
-    match load {
-        BufferLoad::Shared => {
-            let sums = buffered(rt, m, places, turns)?;
-            let spent = start.elapsed(rt)?;
-            test_sums(&sums, turns)?;
-            Ok(spent)
+    // How many threads have taken a role.
+    started: AtomicU64,
+    // How many workers of `Mix` are done.
+    done: AtomicU64,
+}
+
+impl Team {
+    // Does the work of the next role. Returns what the place met with `CountOthers`, else nothing met. Returns an error
+    // if the clock fails in `Stay`.
+    fn work<R: Wait + Clock, M: Monitor<Counter>>(
+        &self,
+        rt: &R,
+        m: &M,
+        out: M::Out,
+    ) -> io::Result<Others>
+        requires { M.is_of m.now out }
+    {
+        let role = self.started.fetch_add(1, Ordering::SeqCst);
+        let turns = self.turns;
+        match self.act {
+            Act::Enter => add_many(rt, m, out, turns),
+            Act::Stay => stay_many(rt, m, out, turns)?,
+            Act::CountOthers => return Ok(count_others(rt, m, out, turns)),
+            Act::Wait(waiters) if role < waiters => wait_many(rt, m, out, turns, role),
+            Act::Wait(waiters) => signal_many(rt, m, out, turns.saturating_mul(waiters), 1),
+            Act::Chain if role < 8 => link_many(rt, m, out, turns, role as usize),
+            Act::Chain => signal_many(rt, m, out, turns, CONDITIONS),
+            Act::Mix if role < WORKERS => visit_many(rt, m, out, role, turns, &self.done),
+            Act::Mix => sweep(rt, m, out, &self.done),
         }
-        BufferLoad::Alone => {
-            append_remove(rt, m, last_place(m, places)?, turns);
-            Ok(start.elapsed(rt)?)
-        }
+        Ok(Others::NONE)
     }
 }
 
-/// Eight threads wait, signal, pass and leave, in `turns` visits each; a ninth, the last to start, resumes waiters
-/// until the others are done. Returns how long that took. Returns an error if out of memory, if the clock fails, or if
-/// the data have another number of entries and returns than the eight threads counted themselves.
-pub fn mixed<R: Threads + Wait + Clock + Sync, M: SharedMixed>(
+// Lets a thread at each place do its part, `turns` times. Returns what all places met.
+fn with_threads<R: Threads + Wait + Clock + Sync, M: SharedCounter>(
     rt: &R,
     m: &M,
     places: Vec<M::Out>,
+    act: Act,
     turns: u64,
-) -> anyhow::Result<Duration>
+) -> io::Result<Others>
 where
     M::Lists: Send,
     requires { All (M.is_of m.now) places.items }
 {
-    let start = Instant::now(rt)?;
-    let roles = AtomicU64::new(0);
+    let team = Team {
+        act,
+        turns,
+        started: AtomicU64::new(0),
+        done: AtomicU64::new(0),
+    };
     let ended = thread::map_vec(
         rt,
         places,
-        &|out| -> anyhow::Result<()>
+        &|out| -> io::Result<Others>
             requires { M.is_of m.now out }
-        { mix(rt, m, out, roles.fetch_add(1, Ordering::SeqCst), turns) },
+        { team.work(rt, m, out) },
     )?;
-    let spent = start.elapsed(rt)?;
-    for one in ended {
-        one?;
-    }
-    Ok(spent)
+    all_met(ended)
 }
 
-/// All threads enter and leave, `turns` times each. Returns what each of them met, or an error if out of memory.
-pub fn met<R: Threads + Wait + Sync, M: OneShared>(
+// Does the work of one thread at the last place, or the last two, `turns` times. Returns an error if there are fewer
+// places, or if an attempt has the wrong result.
+fn with_one_thread<R: Wait, M: Monitor<Counter>>(
+    rt: &R,
+    m: &M,
+    mut places: Vec<M::Out>,
+    solo: Solo,
+    turns: u64,
+) -> anyhow::Result<()>
+    requires { All (M.is_of m.now) places.items }
+{
+    let out = places.pop().ok_or(no_memory())?;
+    let as_meant = match solo {
+        Solo::Enter => {
+            add_many(rt, m, out, turns);
+            true
+        }
+        Solo::TryFree => try_free(rt, m, out, turns),
+        Solo::TryHeld => try_held(rt, m, places.pop().ok_or(no_memory())?, out, turns),
+    };
+    anyhow::ensure!(as_meant, "an attempt to enter had the wrong result");
+    Ok(())
+}
+
+/// Lets the places of a counter do their load, `turns` times each. Returns how long that took, and what all places met,
+/// which only `CountOthers` counts. Returns an error if out of memory, if there is no place for `OneThread`, or one
+/// alone for `TryHeld`, if the clock fails, or if an attempt has the wrong result. `Wait` has to have one place more
+/// than waiters, and `Chain` and `Mix` nine places: else they may never end.
+pub fn count_with<R: Threads + Wait + Clock + Sync, M: SharedCounter>(
     rt: &R,
     m: &M,
     places: Vec<M::Out>,
+    load: Load,
     turns: u64,
-) -> io::Result<Vec<Others>>
+) -> anyhow::Result<(Duration, Others)>
 where
     M::Lists: Send,
     requires { All (M.is_of m.now) places.items }
 {
-    let found = thread::map_vec(
-        rt,
-        places,
-        &|out| -> Others
-            requires { M.is_of m.now out }
-        { count_others(rt, m, out, turns) },
-    )?;
-    Ok(found)
+    let start = Instant::now(rt)?;
+    let others = match load {
+        Load::Threads(act) => with_threads(rt, m, places, act, turns)?,
+        Load::OneThread(solo) => {
+            with_one_thread(rt, m, places, solo, turns)?;
+            Others::NONE
+        }
+    };
+    Ok((start.elapsed(rt)?, others))
 }

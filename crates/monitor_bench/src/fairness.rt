@@ -1,5 +1,5 @@
 //! How many others are admitted between two visits of a place, with threads that enter again as soon as they have left.
-use crate::tries::Counter;
+use crate::turns::Counter;
 use hoare_law::monitor::Monitor;
 use std::io;
 use std::sync::Wait;
@@ -18,14 +18,13 @@ pub struct Others {
 }
 
 impl Others {
-    fn new() -> Others {
-        Others {
-            largest: 0,
-            sum: 0,
-            none: 0,
-            visits: 0,
-        }
-    }
+    /// The record before any visit.
+    pub const NONE: Others = Others {
+        largest: 0,
+        sum: 0,
+        none: 0,
+        visits: 0,
+    };
 
     // Returns the record with one more visit. Since the visit before it others were admitted `others` times.
     fn after(self, others: u64) -> Others {
@@ -64,7 +63,7 @@ pub fn count_others<R: Wait, M: Monitor<Counter>>(rt: &R, m: &M, out: M::Out, tu
     requires { M.is_of m.now out }
 {
     let mut out = out;
-    let mut others = Others::new();
+    let mut others = Others::NONE;
     let mut last = None;
     for _ in 0..turns {
         let mut inside = m.enter(rt, out);
@@ -81,7 +80,11 @@ pub fn count_others<R: Wait, M: Monitor<Counter>>(rt: &R, m: &M, out: M::Out, tu
     others
 }
 
-/// Returns the record of the visits of all records.
-pub fn all_met(met: &[Others]) -> Others {
-    met.iter().fold(Others::new(), |all, one| all.and(*one))
+/// Returns the record of the visits of all records, or the first error.
+pub fn all_met(records: Vec<io::Result<Others>>) -> io::Result<Others> {
+    let mut all = Others::NONE;
+    for one in records {
+        all = all.and(one?);
+    }
+    Ok(all)
 }

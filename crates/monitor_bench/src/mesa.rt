@@ -1,7 +1,7 @@
 //! A bounded buffer with Mesa conditions, over any monitor: what its threads do, and how long that took.
 ghost use Rattle.std.specs.Prelude.{All};
 
-use crate::turns::test_sums;
+use crate::buffers::test_sums;
 use baton_door::door::Door;
 use hoare_law::monitor::Monitor;
 use plain_schedulers::buffer::mesa::MesaBuffer;

@@ -1,36 +1,147 @@
-//! The door of each row, made with its data and of the kind that is measured, and what its places do. (All rows of one
-//! kind of data share a function, since a call at a door's own type takes long to check.)
-ghost use Rattle.std.specs.Prelude.{IfOk};
+//! The rows of the doors as data, and the door of each row, made with its data and of the kind that is measured.
+ghost use Rattle.std.specs.Prelude.{All, IfOk};
 ghost use Rattle.hoare_law.specs.Priorities.{nobody};
 
-use crate::disks::{DiskLoad, work_disk};
-use crate::doors::{
-    BufferLoad, CounterLoad, WideLoad, count_widely, count_with, met, mixed, work_buffer,
-};
+use crate::buffers::buffered;
+use crate::doors::{Act, Load, Solo, count_with};
 use crate::fairness::Others;
-use crate::lists::{Load, Row};
 use crate::mesa::mesa_buffered;
-use crate::mixed::unvisited;
-use crate::opening::{DoorKind, baton, no_memory, ticket};
-use crate::procedures::{CYLINDERS, Visit, acquire_release, read_or_write, take_give};
-use crate::sleepers::{AlarmLoad, work_alarm};
+use crate::mixed::WORKERS;
 use crate::tell;
+use crate::turns::Counter;
 use anyhow::Context;
+use baton_door::door::Door;
+use baton_door::place::DoorOut;
 use hoare_law::data::MonitorData;
+use hoare_law::monitor::Monitor;
 use hoare_law::unconstrained::Unconstrained;
 use plain_schedulers::buffer::Buffer;
 use plain_schedulers::buffer::mesa::MesaBuffer;
-use plain_schedulers::single::Single;
-use std::alloc::Global;
+use std::alloc::{AllocError, Global};
 use std::io;
 use std::rt::Clock;
 use std::sync::Wait;
 use std::thread::Threads;
 use std::time::Duration;
-use sweep_schedulers::head::Head;
-use sweep_schedulers::readers_writers::ReadersWriters;
-use timed_schedulers::alarm::Alarm;
-use timed_schedulers::pool::Pool;
+use ticket_door::door::TicketDoor;
+use ticket_door::place::TicketOut;
+
+/// The kind of door that is measured.
+#[derive(Clone, Copy)]
+pub enum DoorKind {
+    /// The baton door.
+    Baton,
+    /// The ticket door, which admits entering threads in the order of their tickets.
+    Ticket,
+}
+
+// What is measured.
+#[derive(Clone, Copy)]
+enum Data {
+    // A counter.
+    Counter(Load),
+    // A buffer with Hoare's conditions.
+    Buffer,
+    // A buffer with Mesa conditions.
+    MesaBuffer,
+}
+
+// A row of the measurements.
+#[derive(Clone, Copy)]
+struct Row {
+    // Its name in the output.
+    name: &'static str,
+    // Number of places of its door.
+    places: usize,
+    // What is measured there.
+    data: Data,
+    // Divisor of TURNS: the load is done TURNS / `part` times, at least once.
+    part: u64,
+    // Number of acts each time that the load is done. The figure is the time of one act.
+    acts: u64,
+}
+
+macro_rules! row {
+    ($name:literal, $places:literal, $data:expr, $part:literal, $acts:expr) => {
+        Row {
+            name: $name,
+            places: $places,
+            data: $data,
+            part: $part,
+            acts: $acts,
+        }
+    };
+}
+
+// A counter with which one thread does this.
+macro_rules! one_thread {
+    ($solo:expr) => {
+        Data::Counter(Load::OneThread($solo))
+    };
+}
+
+// A counter whose threads do this.
+macro_rules! threads {
+    ($act:expr) => {
+        Data::Counter(Load::Threads($act))
+    };
+}
+
+// Number of cells of a buffer.
+const RING: usize = 16;
+
+const ROWS: &[Row] = &[
+    row!("enter_leave", 1, one_thread!(Solo::Enter), 1, 1),
+    row!("enter_leave_2", 2, threads!(Act::Enter), 10, 2),
+    row!("enter_leave_4", 4, threads!(Act::Enter), 10, 4),
+    row!("enter_leave_8", 8, threads!(Act::Enter), 10, 8),
+    row!("hand_over", 2, threads!(Act::Wait(1)), 100, 1),
+    row!("buffer_1_1", 2, Data::Buffer, 100, 1),
+    row!("buffer_4_4", 8, Data::Buffer, 100, 4),
+    row!("waiting_16", 17, threads!(Act::Wait(16)), 1000, 16),
+    row!("chain_8", 9, threads!(Act::Chain), 1000, 8),
+    row!("mixed_9", 9, threads!(Act::Mix), 1000, WORKERS),
+    row!("mesa_buffer_1_1", 2, Data::MesaBuffer, 100, 1),
+    row!("mesa_buffer_4_4", 8, Data::MesaBuffer, 100, 4),
+    row!("try_enter", 1, one_thread!(Solo::TryFree), 1, 1),
+    row!("try_enter_no", 2, one_thread!(Solo::TryHeld), 1, 1),
+    row!("long_visits_8", 8, threads!(Act::Stay), 1000, 8),
+];
+
+/// Returns the error that reports out of memory. It also reports a refused door or buffer, and a missing place.
+pub fn no_memory() -> io::Error {
+    io::Error::from(AllocError)
+}
+
+// Creates a baton door with the data `state`. Returns it with its places. Every refusal is reported as `no_memory`.
+fn baton<D: MonitorData + Send + Drop>(
+    alloc: Global,
+    state: D,
+    places: usize,
+) -> io::Result<(Door<D>, Vec<DoorOut<D>>)>
+    requires { D.rest state nobody }
+    ensures { IfOk result (λ r. All (⟦<Door<D> as Monitor<D>>⟧.is_of r.0) r.1.items) }
+{
+    match Door::make(alloc, state, places) {
+        Ok(made) => Ok(made),
+        Err(_refused) => Err(no_memory()),
+    }
+}
+
+// Creates a ticket door with the data `state`. Returns it with its places. Every refusal is reported as `no_memory`.
+fn ticket<D: MonitorData + Send + Drop>(
+    alloc: Global,
+    state: D,
+    places: usize,
+) -> io::Result<(TicketDoor<D>, Vec<TicketOut<D>>)>
+    requires { D.rest state nobody }
+    ensures { IfOk result (λ r. All (⟦<TicketDoor<D> as Monitor<D>>⟧.is_of r.0) r.1.items) }
+{
+    match TicketDoor::make(alloc, state, places) {
+        Ok(made) => Ok(made),
+        Err(_refused) => Err(no_memory()),
+    }
+}
 
 // Makes a door of this kind with these data and this number of places, and does the work there. Returns what the work
 // returns.
@@ -50,11 +161,17 @@ macro_rules! on_places {
     }};
 }
 
-// Number of cells of the buffer.
-const RING: usize = 16;
-
-fn counter<const N: usize>() -> Unconstrained<u64, N> {
-    Unconstrained { value: 0 }
+// Measures a counter.
+fn counter_row<R: Clock + Threads + Wait + Sync>(
+    rt: &R,
+    alloc: Global,
+    kind: DoorKind,
+    places: usize,
+    load: Load,
+    turns: u64,
+) -> anyhow::Result<(Duration, Others)> {
+    let counter: Counter = Unconstrained { value: 0 };
+    on_places!(kind, rt, alloc, counter, places, count_with(load, turns))
 }
 
 fn ring(alloc: Global) -> io::Result<Buffer<u64>>
@@ -66,6 +183,17 @@ fn ring(alloc: Global) -> io::Result<Buffer<u64>>
     }
 }
 
+// Measures a buffer with Hoare's conditions.
+fn buffer_row<R: Clock + Threads + Wait + Sync>(
+    rt: &R,
+    alloc: Global,
+    kind: DoorKind,
+    places: usize,
+    turns: u64,
+) -> anyhow::Result<Duration> {
+    on_places!(kind, rt, alloc, ring(alloc)?, places, buffered(turns))
+}
+
 fn mesa_ring(alloc: Global) -> io::Result<MesaBuffer<u64>>
     ensures { IfOk result (λ b. ⟦<MesaBuffer<u64> as MonitorData>⟧.rest b nobody) }
 {
@@ -75,66 +203,12 @@ fn mesa_ring(alloc: Global) -> io::Result<MesaBuffer<u64>>
     }
 }
 
-// Creates a pool of this number of buffers, for one stream.
-fn pool(alloc: Global, buffers: u32) -> anyhow::Result<Pool>
-    ensures { IfOk result (λ p. ⟦<Pool as MonitorData>⟧.rest p nobody) }
-{
-    Pool::make(alloc, buffers, 1).context("a pool")
-}
-
-// Measures a counter with one condition.
-fn counter_row<R: Clock + Threads + Wait + Sync>(
+// Measures a buffer with Mesa conditions.
+fn mesa_row<R: Clock + Threads + Wait + Sync>(
     rt: &R,
     alloc: Global,
     kind: DoorKind,
-    count: usize,
-    load: CounterLoad,
-    turns: u64,
-) -> anyhow::Result<Duration> {
-    on_places!(kind, rt, alloc, counter(), count, count_with(load, turns))
-}
-
-// Measures a counter with eight conditions.
-fn wide_row<R: Clock + Threads + Wait + Sync>(
-    rt: &R,
-    alloc: Global,
-    kind: DoorKind,
-    count: usize,
-    load: WideLoad,
-    turns: u64,
-) -> io::Result<Duration> {
-    on_places!(kind, rt, alloc, counter(), count, count_widely(load, turns))
-}
-
-/// Measures a buffer with Hoare's conditions on a door of this kind with `count` places. Returns how long the load
-/// took, done `turns` times. Returns an error if out of memory, if `count` isn't 1 to 64, if the clock fails, or if the
-/// sum of what `Shared` removes is wrong.
-pub fn buffer_row<R: Clock + Threads + Wait + Sync>(
-    rt: &R,
-    alloc: Global,
-    kind: DoorKind,
-    count: usize,
-    load: BufferLoad,
-    turns: u64,
-) -> anyhow::Result<Duration> {
-    on_places!(
-        kind,
-        rt,
-        alloc,
-        ring(alloc)?,
-        count,
-        work_buffer(load, turns)
-    )
-}
-
-/// Measures a buffer with Mesa conditions that is shared by `count` threads, on a door of this kind. Returns how long
-/// the load took, done `turns` times. Returns an error if out of memory, if `count` isn't 1 to 64, if the clock fails,
-/// or if the sum of the removed items is wrong.
-pub fn mesa_row<R: Clock + Threads + Wait + Sync>(
-    rt: &R,
-    alloc: Global,
-    kind: DoorKind,
-    count: usize,
+    places: usize,
     turns: u64,
 ) -> anyhow::Result<Duration> {
     on_places!(
@@ -142,156 +216,42 @@ pub fn mesa_row<R: Clock + Threads + Wait + Sync>(
         rt,
         alloc,
         mesa_ring(alloc)?,
-        count,
+        places,
         mesa_buffered(turns)
     )
 }
 
-// Measures visits that wait, signal, pass or leave.
-fn mixed_row<R: Clock + Threads + Wait + Sync>(
-    rt: &R,
-    alloc: Global,
-    kind: DoorKind,
-    count: usize,
-    turns: u64,
-) -> anyhow::Result<Duration> {
-    on_places!(kind, rt, alloc, unvisited(), count, mixed(turns))
-}
-
-/// Measures how many others enter between two visits of a place, on a door of this kind with `count` places. Returns
-/// for each place what it met in `turns` visits, or an error if out of memory or if `count` isn't 1 to 64.
-pub fn others_row<R: Threads + Wait + Sync>(
-    rt: &R,
-    alloc: Global,
-    kind: DoorKind,
-    count: usize,
-    turns: u64,
-) -> io::Result<Vec<Others>> {
-    on_places!(kind, rt, alloc, counter(), count, met(turns))
-}
-
-// Measures a single item.
-fn single_row<R: Clock + Wait>(
-    rt: &R,
-    alloc: Global,
-    kind: DoorKind,
-    turns: u64,
-) -> anyhow::Result<Duration> {
-    on_places!(kind, rt, alloc, Single::with(0), 1, acquire_release(turns))
-}
-
-// Measures a pool of this number of buffers, of which `kept` are kept.
-fn pool_row<R: Clock + Wait>(
-    rt: &R,
-    alloc: Global,
-    kind: DoorKind,
-    (buffers, kept): (u32, u32),
-    turns: u64,
-) -> anyhow::Result<Duration> {
-    on_places!(
-        kind,
-        rt,
-        alloc,
-        pool(alloc, buffers)?,
-        1,
-        take_give(kept, turns)
-    )
-}
-
-// Measures an alarm clock.
-fn alarm_row<R: Clock + Threads + Wait + Sync>(
-    rt: &R,
-    alloc: Global,
-    kind: DoorKind,
-    count: usize,
-    load: AlarmLoad,
-    turns: u64,
-) -> anyhow::Result<Duration> {
-    on_places!(
-        kind,
-        rt,
-        alloc,
-        Alarm::at(0),
-        count,
-        work_alarm(load, turns)
-    )
-}
-
-// Measures a disk head.
-fn disk_row<R: Clock + Threads + Wait + Sync>(
-    rt: &R,
-    alloc: Global,
-    kind: DoorKind,
-    count: usize,
-    load: DiskLoad,
-    turns: u64,
-) -> anyhow::Result<Duration> {
-    on_places!(
-        kind,
-        rt,
-        alloc,
-        Head::with(0, CYLINDERS - 1),
-        count,
-        work_disk(load, turns)
-    )
-}
-
-// Measures readers and writers.
-fn readers_row<R: Eprint + Clock + Wait>(
-    rt: &R,
-    alloc: Global,
-    kind: DoorKind,
-    visit: Visit,
-    turns: u64,
-) -> anyhow::Result<Duration> {
-    on_places!(
-        kind,
-        rt,
-        alloc,
-        ReadersWriters::with(0),
-        1,
-        read_or_write(visit, turns)
-    )
-}
-
-// Returns how long the row's load takes, done `turns` times; of a load that is measured in part, how long that part
-// takes.
-fn time_of<R: Eprint + Clock + Threads + Wait + Sync>(
+// Returns how long the row's load takes, done `turns` times.
+fn time_of<R: Clock + Threads + Wait + Sync>(
     rt: &R,
     alloc: Global,
     kind: DoorKind,
     row: Row,
     turns: u64,
 ) -> anyhow::Result<Duration> {
-    let count = row.places;
-    match row.load {
-        Load::Counter(load) => counter_row(rt, alloc, kind, count, load, turns),
-        Load::Wide(load) => Ok(wide_row(rt, alloc, kind, count, load, turns)?),
-        Load::Buffer(load) => buffer_row(rt, alloc, kind, count, load, turns),
-        Load::MesaBuffer => mesa_row(rt, alloc, kind, count, turns),
-        Load::Mixed => mixed_row(rt, alloc, kind, count, turns),
-        Load::Single => single_row(rt, alloc, kind, turns),
-        Load::Pool(buffers, kept) => pool_row(rt, alloc, kind, (buffers, kept), turns),
-        Load::Alarm(load) => alarm_row(rt, alloc, kind, count, load, turns),
-        Load::Disk(load) => disk_row(rt, alloc, kind, count, load, turns),
-        Load::Readers(visit) => readers_row(rt, alloc, kind, visit, turns),
+    let places = row.places;
+    match row.data {
+        Data::Counter(load) => Ok(counter_row(rt, alloc, kind, places, load, turns)?.0),
+        Data::Buffer => buffer_row(rt, alloc, kind, places, turns),
+        Data::MesaBuffer => mesa_row(rt, alloc, kind, places, turns),
     }
 }
 
-/// Measures these rows on a door of this kind, and prints a line for each, with the time of one act. The load of a row
-/// is done `turns` / `part` times. Returns an error, with the row's name, if a row can't be measured, or if printing
-/// fails.
-pub fn measure_rows<R: Print + Eprint + Clock + Threads + Wait + Sync>(
+/// Measures all rows on a door of this kind, and prints a line for each, with the time of one act; then how many others
+/// enter between two visits of a place, with eight places. Returns an error, with the row's name, if a row can't be
+/// measured, or if printing fails.
+pub fn measure<R: Print + Clock + Threads + Wait + Sync>(
     rt: &R,
     alloc: Global,
     kind: DoorKind,
-    rows: &[Row],
     turns: u64,
 ) -> anyhow::Result<()> {
-    for row in rows {
-        let turns = turns / row.part.max(1);
+    for row in ROWS {
+        let turns = (turns / row.part).max(1);
         let spent = time_of(rt, alloc, kind, *row, turns).context(row.name)?;
-        tell(rt, row.name, spent, turns.saturating_mul(row.acts))?;
+        tell(rt, row.name, "", spent, turns.saturating_mul(row.acts))?;
     }
-    Ok(())
+    let load = Load::Threads(Act::CountOthers);
+    let (_spent, others) = counter_row(rt, alloc, kind, 8, load, turns / 10)?;
+    Ok(others.show(rt)?)
 }

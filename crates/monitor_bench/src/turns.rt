@@ -1,19 +1,25 @@
-//! What the threads do, over any monitor.
-ghost use Rattle.std.specs.Prelude.{◌<◌, ◌≡◌};
+//! What the threads of a counter do, over any monitor.
+ghost use Rattle.std.specs.Prelude.{◌<◌};
 
 use hoare_law::monitor::Monitor;
 use hoare_law::unconstrained::Unconstrained;
 use hoare_law::waits::Waits;
-use plain_schedulers::buffer::Buffer;
+use std::io;
+use std::rt::Clock;
 use std::sync::Wait;
+use std::time::{Duration, Instant};
+
+/// Number of conditions of a counter, and of links in a chain.
+pub const CONDITIONS: usize = 8;
+
+/// The data: a counter with eight conditions.
+pub type Counter = Unconstrained<u64, 8>;
+
+// How long a place works inside in a long visit, in microseconds.
+const WORK: u64 = 100;
 
 /// Enters, adds one and leaves, `turns` times.
-pub fn add_many<const N: usize, R: Wait, M: Monitor<Unconstrained<u64, N>>>(
-    rt: &R,
-    m: &M,
-    out: M::Out,
-    turns: u64,
-)
+pub fn add_many<R: Wait, M: Monitor<Counter>>(rt: &R, m: &M, out: M::Out, turns: u64)
     requires { M.is_of m.now out }
 {
     let mut out = out;
@@ -25,16 +31,45 @@ pub fn add_many<const N: usize, R: Wait, M: Monitor<Unconstrained<u64, N>>>(
     }
 }
 
+// Polls the clock for `WORK` microseconds.
+fn work<R: Wait + Clock>(rt: &R) -> io::Result<()> {
+    let start = Instant::now(rt)?;
+    for _ in rt.forever() {
+        if start.elapsed(rt)? >= Duration::from_micros(WORK) {
+            return Ok(());
+        }
+    }
+    unreachable!()
+}
+
+/// Enters, works inside for `WORK` microseconds and leaves, `turns` times. Returns an error if the clock fails.
+pub fn stay_many<R: Wait + Clock, M: Monitor<Counter>>(
+    rt: &R,
+    m: &M,
+    out: M::Out,
+    turns: u64,
+) -> io::Result<()>
+    requires { M.is_of m.now out }
+{
+    let mut out = out;
+    for _ in 0..turns {
+        let inside = m.enter(rt, out);
+        let worked = work(rt);
+        out = m.leave(rt, inside);
+        worked?;
+    }
+    Ok(())
+}
+
 /// Enters, waits on condition 0 with `priority`, `turns` times, and leaves.
-pub fn wait_many<const N: usize, R: Wait, M: Monitor<Unconstrained<u64, N>>>(
+pub fn wait_many<R: Wait, M: Monitor<Counter>>(
     rt: &R,
     m: &M,
     out: M::Out,
     turns: u64,
     priority: u64,
 )
-    requires of { M.is_of m.now out }
-    requires condition { 0 < N }
+    requires { M.is_of m.now out }
 {
     let mut inside = m.enter(rt, out);
     for _ in 0..turns {
@@ -43,25 +78,33 @@ pub fn wait_many<const N: usize, R: Wait, M: Monitor<Unconstrained<u64, N>>>(
     m.leave(rt, inside);
 }
 
-/// Enters, signals condition 0 if a process waits there, and leaves, until `turns` processes were resumed.
-pub fn signal_many<const N: usize, R: Wait, M: Monitor<Unconstrained<u64, N>>>(
+// Returns true if a process waits on condition 0, and on each other condition below `conditions`.
+fn are_ready<M: Monitor<Counter>>(m: &M, inside: &M::In, conditions: usize) -> bool
+    requires { M.is_of_in m.now inside.now }
+{
+    let lists = m.lists(inside);
+    m.queue(inside, 0) && (1..conditions).all(|c| lists.count(c) > 0)
+}
+
+/// Enters, signals condition 0 if a process waits on each condition below `conditions`, and leaves, until it has
+/// signalled `turns` times.
+pub fn signal_many<R: Wait, M: Monitor<Counter>>(
     rt: &R,
     m: &M,
     out: M::Out,
     turns: u64,
+    conditions: usize,
 )
-    requires of { M.is_of m.now out }
-    requires condition { 0 < N }
+    requires { M.is_of m.now out }
 {
-    let mut out = out;
-    let mut resumed = 0;
+    let (mut out, mut signals) = (out, 0);
     for _ in rt.forever() {
-        if resumed >= turns {
+        if signals >= turns {
             return;
         }
         let inside = m.enter(rt, out);
-        if m.queue(&inside, 0) {
-            resumed += 1;
+        if are_ready(m, &inside, conditions) {
+            signals += 1;
             let (inside, _resumed) = m.signal(rt, inside, 0);
             out = m.leave(rt, inside);
         } else {
@@ -73,7 +116,7 @@ pub fn signal_many<const N: usize, R: Wait, M: Monitor<Unconstrained<u64, N>>>(
 
 /// Enters, waits on `condition`, signals the next condition and leaves, `turns` times, as a link of a chain. The link
 /// of the last condition doesn't signal.
-pub fn link_many<const N: usize, R: Wait, M: Monitor<Unconstrained<u64, N>>>(
+pub fn link_many<R: Wait, M: Monitor<Counter>>(
     rt: &R,
     m: &M,
     out: M::Out,
@@ -81,88 +124,18 @@ pub fn link_many<const N: usize, R: Wait, M: Monitor<Unconstrained<u64, N>>>(
     condition: usize,
 )
     requires of { M.is_of m.now out }
-    requires condition { condition < N }
+    requires condition { condition < 8 }
 {
     let mut out = out;
     for _ in 0..turns {
         let inside = m.enter(rt, out);
         let inside = m.wait(rt, inside, condition, 0);
         let next = condition + 1;
-        if next < N {
+        if next < CONDITIONS {
             let (inside, _resumed) = m.signal(rt, inside, next);
             out = m.leave(rt, inside);
         } else {
             out = m.leave(rt, inside);
         }
     }
-}
-
-// Returns true if at least one process waits on every condition.
-fn is_chain_ready<const N: usize, M: Monitor<Unconstrained<u64, N>>>(m: &M, inside: &M::In) -> bool
-    requires { M.is_of_in m.now inside.now }
-{
-    let lists = m.lists(inside);
-    (0..N).all(|c| lists.count(c) > 0)
-}
-
-/// Signals the first link of a chain each time that all links wait, `turns` times.
-pub fn pull_many<const N: usize, R: Wait, M: Monitor<Unconstrained<u64, N>>>(
-    rt: &R,
-    m: &M,
-    out: M::Out,
-    turns: u64,
-)
-    requires of { M.is_of m.now out }
-    requires condition { 0 < N }
-{
-    let mut out = out;
-    let mut pulled = 0;
-    for _ in rt.forever() {
-        if pulled >= turns {
-            return;
-        }
-        let inside = m.enter(rt, out);
-        if is_chain_ready(m, &inside) {
-            pulled += 1;
-            let (inside, _resumed) = m.signal(rt, inside, 0);
-            out = m.leave(rt, inside);
-        } else {
-            out = m.leave(rt, inside);
-        }
-    }
-    unreachable!()
-}
-
-/// Appends the numbers below `turns`.
-pub fn append_many<R: Wait, M: Monitor<Buffer<u64>>>(rt: &R, m: &M, out: M::Out, turns: u64)
-    requires { M.is_of m.now out }
-{
-    let mut out = out;
-    for item in 0..turns {
-        out = Buffer::append(m, rt, out, item);
-    }
-}
-
-/// Removes `turns` items, and returns their sum, modulo 2^64.
-pub fn remove_many<R: Wait, M: Monitor<Buffer<u64>>>(rt: &R, m: &M, out: M::Out, turns: u64) -> u64
-    requires { M.is_of m.now out }
-{
-    let mut out = out;
-    let mut sum = 0u64;
-    for _ in 0..turns {
-        let (again, item) = Buffer::remove(m, rt, out);
-        out = again;
-        sum = sum.wrapping_add(item);
-    }
-    sum
-}
-
-/// Tests what was removed from a buffer to which half of the threads appended the numbers below `turns`. `sums` has the
-/// sum of what each thread removed. Returns an error if all together isn't the sum of what was appended, modulo 2^64.
-pub fn test_sums(sums: &[u64], turns: u64) -> anyhow::Result<()> {
-    let removed = sums.iter().fold(0u64, |all, sum| all.wrapping_add(*sum));
-    let each = (0..turns).fold(0u64, |all, item| all.wrapping_add(item));
-    let appended = each.wrapping_mul(sums.len() as u64 / 2);
-    anyhow::ensure!(removed == appended, "the removed items have the wrong sum");
-    Ok(())
 }

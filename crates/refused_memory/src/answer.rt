@@ -21,13 +21,6 @@ impl Answer {
     ghost use Rattle.std.specs.Prelude.{◌≡◌, if◌then◌else◌};
     ghost use Rattle.refused_memory.specs.declared.answer.Answer.TheVariants as answers;
 
-    /// Returns `Made` if `right`, else `Wrong`.
-    pub fn made_if(right: bool) -> Answer
-        ensures { result ≡ (if right then answers.Made else answers.Wrong) }
-    {
-        if right { Answer::Made } else { Answer::Wrong }
-    }
-
     /// Returns `Memory` if `clean`, which says that nothing was lost or written; else `Wrong`.
     pub fn memory_if(clean: bool) -> Answer
         ensures { result ≡ (if clean then answers.Memory else answers.Wrong) }

@@ -1,17 +1,10 @@
 //! Makes what standard input names, one name a line, and prints if there was memory for it. `tests/refused-memory` runs
-//! this program with each request for memory refused in turn. `tests/counted-memory` counts the requests of long runs
-//! and of short ones.
+//! this program with each request for memory refused in turn.
 #![tactic(auto)]
 
 mod answer;
 mod calls;
-mod cells;
-mod long;
-mod noted;
-mod repeated;
-mod rounds;
 mod services;
-mod tickets;
 
 use crate::calls::call;
 use arrayvec::ArrayVec;

@@ -1,16 +1,11 @@
 //! What the tests of monitors share: a monitor of one thread (`fake`), on which the procedures of any monitor run; a
-//! row's door, made and closed; a limit of time; a diary of what processes do, and its judge. What the other processes
-//! leave in the monitor of one thread is given beforehand. No function here fails a test: it returns what was refused
-//! or was late.
+//! row's door, made and closed; a limit of time. What the other processes leave in the monitor of one thread is given
+//! beforehand. No function here fails a test: it returns what was refused or was late.
 #![tactic(auto)]
 
-pub mod diary;
-pub mod diary_calls;
 pub mod drawn;
 pub mod fake;
-pub mod history;
 pub mod limit;
-pub mod on_any_door;
 pub mod on_baton_door;
 pub mod on_ticket_door;
 pub mod running;

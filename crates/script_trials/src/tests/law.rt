@@ -34,17 +34,17 @@ fn joined_and_taken(rt: HostRuntime) {
 
 // What three of the laws say of entering processes: none is admitted right after a signal, while a process is inside,
 // or while a signaller waits.
-fn newcomers_come_last<S>()
-    ensures behind_a_signal { (h : History S) (k c w newcomer : ℕ) (s found : S)
-        → Allowed (with_event h (Signal k c w s)) (Admit newcomer found) → ⊥ }
-    ensures beside_one_inside { (h : History S) (k newcomer : ℕ) (found : S)
-        → turn h.events ≡ Held k → Allowed h (Admit newcomer found) → ⊥ }
-    ensures before_a_signaller { (h : History S) (newcomer : ℕ) (found : S) (first : ℕ) (others : List ℕ)
-        → urgent h.events ≡ first ∷ others → Allowed h (Admit newcomer found) → ⊥ }
+fn entering_places_come_last<S>()
+    ensures behind_a_signal { (h : History S) (k c w entering : ℕ) (s found : S)
+        → Allowed (with_event h (Signal k c w s)) (Admit entering found) → ⊥ }
+    ensures beside_one_inside { (h : History S) (k entering : ℕ) (found : S)
+        → turn h.events ≡ Held k → Allowed h (Admit entering found) → ⊥ }
+    ensures before_a_signaller { (h : History S) (entering : ℕ) (found : S) (first : ℕ) (others : List ℕ)
+        → urgent h.events ≡ first ∷ others → Allowed h (Admit entering found) → ⊥ }
 {
     laws::nothing_intervenes::<S>();
     laws::admitted_from_outside::<S>();
-    laws::newcomers_last::<S>();
+    laws::entering_last::<S>();
 }
 
 // What the laws of overtaking say if no other process goes first: the monitor returns to a signaller at the first
@@ -82,10 +82,10 @@ fn counts_by_hand()
 {}
 
 // A run shows of a law only that its call returns. What the laws say is used to prove the clauses of
-// `newcomers_come_last` and `first_goes_first`.
+// `entering_places_come_last` and `first_goes_first`.
 #[test]
 fn laws_can_be_called() {
-    newcomers_come_last::<u8>();
+    entering_places_come_last::<u8>();
     laws::one_is_inside::<u8>();
     laws::signallers_before_called::<u8>();
     laws::caller_goes_on::<u8>();

@@ -1,5 +1,0 @@
-use Rattle.monitor_bench.proofs.procedures.take_many.Given as goal
-
--- the place stays one of the monitor's
-abbrev pub invariant-loop : goal.invariant-loop
-invariant-loop g l = g.M.Monitor.is_of l.m l.out

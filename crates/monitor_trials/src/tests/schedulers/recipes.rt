@@ -1,0 +1,5 @@
+//! The recipes of the cookbook.
+
+mod gates;
+mod mail;
+mod table;

@@ -1,6 +1,0 @@
-use Rattle.std.specs.Prelude.{◌≡◌}
-use Rattle.scheduler_trials.proofs.tests.rows.pool_stress.takes_all.Given as goal
-
--- the place stays one of the monitor's, and keeps its number
-abbrev pub invariant-loop-expected : goal.invariant-loop-expected
-invariant-loop-expected g l = g.M.Monitor.is_of l.m l.out × (g.M.Monitor.place l.out ≡ g.M.Monitor.place l.fn.out)

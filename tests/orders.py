@@ -28,7 +28,6 @@ class Monitor:
         self.answers = {}
         self.asking = set()
         self.ended = set()
-        self.results = {}
 
     def queue(self, condition):
         return any(w[0] == condition for w in self.waiting)
@@ -63,9 +62,8 @@ class Monitor:
                 call = self.threads[place].send(False)
             assert call == ("enter",)
             self.asking.add(place)
-        except StopIteration as end:
+        except StopIteration:
             self.ended.add(place)
-            self.results[place] = end.value
 
     def enter(self, place):
         self.asking.remove(place)
@@ -129,7 +127,7 @@ def run(make, order, patience):
         elif len(monitor.ended) < len(threads):
             return [], "stuck"
         else:
-            return [], "ends" if is_right(monitor.results) else "wrong"
+            return [], "ends" if is_right() else "wrong"
     return [], f"thread {monitor.starved} starves"
 
 
@@ -164,18 +162,8 @@ def drawn(make, seed, most):
     return f"{most} orders end, and end right; the limit of runs is met"
 
 
-def right(results):
+def right():
     return True
-
-
-def visits(threads, count):
-    def make():
-        def visit():
-            for _ in range(count):
-                yield ("enter",)
-                yield ("leave",)
-        return [visit() for _ in range(threads)], right
-    return make
 
 
 def permits():
@@ -190,55 +178,7 @@ def permits():
         yield ("enter",)
         d["free"] += 1
         yield ("pass", 0)
-    return [worker(0), worker(1), worker(1)], lambda _: d["free"] == 2
-
-
-def buffer(turns, mesa):
-    def make():
-        d = {"n": 0}
-
-        def put():
-            for _ in range(turns):
-                yield ("enter",)
-                while d["n"] == 1:
-                    yield ("wait", 0 if not mesa else 1)
-                    if not mesa:
-                        break
-                assert d["n"] == 0
-                d["n"] += 1
-                if mesa:
-                    yield ("notify", 0)
-                yield ("leave",) if mesa else ("pass", 1)
-
-        def take():
-            for _ in range(turns):
-                yield ("enter",)
-                while d["n"] == 0:
-                    yield ("wait", 1 if not mesa else 0)
-                    if not mesa:
-                        break
-                assert d["n"] == 1
-                d["n"] -= 1
-                if mesa:
-                    yield ("notify", 1)
-                yield ("leave",) if mesa else ("pass", 0)
-        return [put(), put(), take(), take()], lambda _: d["n"] == 0
-    return make
-
-
-def rendezvous():
-    d = {"waits": False}
-
-    def meet():
-        yield ("enter",)
-        if d["waits"]:
-            d["waits"] = False
-            yield ("pass", 0)
-        else:
-            d["waits"] = True
-            yield ("wait", 0)
-            yield ("leave",)
-    return [meet() for _ in range(4)], right
+    return [worker(0), worker(1), worker(1)], lambda: d["free"] == 2
 
 
 def weak_barrier():
@@ -258,22 +198,6 @@ def weak_barrier():
     return [withdraw(), arrive(), arrive()], right
 
 
-def barrier():
-    d = {"arrived": 0, "generation": 0}
-
-    def arrive():
-        for _ in range(2):
-            yield ("enter",)
-            if d["arrived"] == 2:
-                d["generation"] += 1
-            else:
-                d["arrived"] += 1
-                yield ("wait", 0, d["generation"])
-                d["arrived"] -= 1
-            yield ("pass", 0)
-    return [arrive() for _ in range(3)], lambda _: d == {"arrived": 0, "generation": 2}
-
-
 def gate():
     def go(waits):
         yield ("enter",)
@@ -283,104 +207,23 @@ def gate():
     return [go(True), go(True), go(False)], right
 
 
-def lost_wake():
-    d = {"open": False}
-
-    def go():
-        yield ("enter",)
-        if not d["open"]:
-            yield ("wait", 0)
-        yield ("leave",)
-
-    def opens():
-        yield ("enter",)
-        d["open"] = True
-        yield ("notify", 0)
-        yield ("leave",)
-    return [go(), go(), opens()], right
-
-
-def signals():
-    d = {"value": 0}
-
-    def pair_up():
-        yield ("enter",)
-        if (yield ("queue", 0)):
-            yield ("signal", 0)
-            d["value"] *= 10
-        else:
-            yield ("wait", 0)
-            d["value"] += 1
-        yield ("leave",)
-    return [pair_up() for _ in range(4)], lambda _: d["value"] == 110
-
-
-def drain():
-    d = {"under_way": 0}
-
-    def work():
-        yield ("enter",)
-        d["under_way"] += 1
-        yield ("leave",)
-        yield ("enter",)
-        d["under_way"] -= 1
-        yield ("leave",) if d["under_way"] > 0 else ("pass", 0)
-
-    def wait_for_none():
-        yield ("enter",)
-        if d["under_way"] > 0:
-            yield ("wait", 0)
-        assert d["under_way"] == 0
-        yield ("pass", 0)
-    return [work(), work(), wait_for_none(), wait_for_none()], lambda _: d["under_way"] == 0
-
-
-def latch():
-    d = {"left": 2}
-
-    def down():
-        yield ("enter",)
-        d["left"] -= 1
-        yield ("pass", 0) if d["left"] == 0 else ("leave",)
-
-    def go():
-        yield ("enter",)
-        if d["left"] > 0:
-            yield ("wait", 0)
-        yield ("pass", 0)
-    return [down(), down(), go(), go()], right
-
-
-def single(threads):
+def called(how):
     def make():
-        d = {"in": True}
+        d = {"open": False}
 
-        def use():
+        def go():
             yield ("enter",)
-            if not d["in"]:
+            if not d["open"]:
                 yield ("wait", 0)
-            assert d["in"]
-            d["in"] = False
             yield ("leave",)
+
+        def opens():
             yield ("enter",)
-            d["in"] = True
-            yield ("pass", 0)
-        return [use() for _ in range(threads)], lambda _: d["in"]
+            d["open"] = True
+            yield (how, 0)
+            yield ("leave",)
+        return [go(), go(), opens()], right
     return make
-
-
-def tickers():
-    d = {"time": 0}
-
-    def tick():
-        yield ("enter",)
-        d["time"] += 1
-        yield ("pass", 0)
-        yield ("enter",)
-        time = d["time"]
-        yield ("pass", 0)
-        return time
-    return [tick() for _ in range(3)], lambda results: 3 in results.values()
 
 
 def late_alarm():
@@ -401,130 +244,30 @@ def late_alarm():
     return [sleep(), sleep(), tick()], right
 
 
-def head(threads):
-    def make():
-        d = {"busy": False, "at": 0, "up": True}
+def hungry():
+    eats = [False] * 5
 
-        def use(to):
+    def can_eat(seat):
+        return not (eats[seat] or eats[seat - 1] or eats[(seat + 1) % 5])
+
+    def hand_on():
+        for seat in range(5):
+            if (yield ("queue", seat)) and can_eat(seat):
+                return ("pass", seat)
+        return ("leave",)
+
+    def eat(seat, meals):
+        for _ in range(meals):
             yield ("enter",)
-            if d["busy"]:
-                if d["at"] < to or (d["at"] == to and not d["up"]):
-                    yield ("wait", 0, to)
-                else:
-                    yield ("wait", 1, 9 - to)
-            assert not d["busy"]
-            d["busy"], d["at"] = True, to
-            yield ("leave",)
+            if not can_eat(seat):
+                yield ("wait", seat)
+            assert can_eat(seat)
+            eats[seat] = True
+            yield (yield from hand_on())
             yield ("enter",)
-            d["busy"] = False
-            if not (yield ("queue", 0 if d["up"] else 1)):
-                d["up"] = not d["up"]
-            yield ("pass", 0 if d["up"] else 1)
-        return [use(place) for place in range(threads)], lambda _: not d["busy"]
-    return make
-
-
-def readers(threads):
-    def make():
-        d = {"in": 0, "busy": False}
-
-        def read():
-            yield ("enter",)
-            if d["busy"] or (yield ("queue", 1)):
-                yield ("wait", 0)
-            assert not d["busy"]
-            d["in"] += 1
-            yield ("pass", 0)
-            yield ("enter",)
-            d["in"] -= 1
-            yield ("pass", 1) if d["in"] == 0 else ("leave",)
-
-        def write():
-            yield ("enter",)
-            if d["busy"] or d["in"] > 0:
-                yield ("wait", 1)
-            assert not d["busy"] and d["in"] == 0
-            d["busy"] = True
-            yield ("leave",)
-            yield ("enter",)
-            d["busy"] = False
-            yield ("pass", 0 if (yield ("queue", 0)) else 1)
-        return [write() if place == 2 else read() for place in range(threads)], right
-    return make
-
-
-def mailbox():
-    d = {"letters": 0}
-
-    def send():
-        yield ("enter",)
-        d["letters"] += 1
-        yield ("pass", 0)
-
-    def receive():
-        yield ("enter",)
-        if d["letters"] == 0:
-            yield ("wait", 0)
-        d["letters"] -= 1
-        yield ("pass", 1)
-    return [send(), send(), receive(), receive()], lambda _: d["letters"] == 0
-
-
-def table(meals):
-    def make():
-        eats = [False] * 5
-
-        def can_eat(seat):
-            return not (eats[seat] or eats[seat - 1] or eats[(seat + 1) % 5])
-
-        def hand_on():
-            for seat in range(5):
-                if (yield ("queue", seat)) and can_eat(seat):
-                    return ("pass", seat)
-            return ("leave",)
-
-        def eat(seat):
-            for _ in range(meals[seat]):
-                yield ("enter",)
-                if not can_eat(seat):
-                    yield ("wait", seat)
-                assert can_eat(seat)
-                eats[seat] = True
-                yield (yield from hand_on())
-                yield ("enter",)
-                eats[seat] = False
-                yield (yield from hand_on())
-        return [eat(seat) for seat in range(3)], lambda _: not any(eats)
-    return make
-
-
-def work_queue():
-    d = {"jobs": 0, "closed": False, "workers": 2}
-
-    def boss():
-        yield ("enter",)
-        d["jobs"] += 1
-        yield ("notify", 1)
-        yield ("leave",)
-        yield ("enter",)
-        d["closed"] = True
-        yield ("broadcast", 1)
-        if d["workers"] > 0:
-            yield ("wait", 0)
-        yield ("pass", 0)
-
-    def worker():
-        while True:
-            yield ("enter",)
-            while d["jobs"] == 0 and not d["closed"]:
-                yield ("wait", 1)
-            if d["jobs"] == 0:
-                break
-            d["jobs"] -= 1
-            yield ("leave",)
-        d["workers"] -= 1
-        yield ("leave",) if d["workers"] > 0 else ("pass", 0)
-    return [boss(), worker(), worker()], right
+            eats[seat] = False
+            yield (yield from hand_on())
+    return [eat(0, 3), eat(1, 1), eat(2, 3)], lambda: not any(eats)
 
 
 def starving(others):
@@ -545,31 +288,25 @@ def starving(others):
     return make
 
 
-def tries(always):
-    def make():
-        d = {"value": 0}
+def late_wait():
+    d = {"value": 0}
 
-        def go():
-            yield ("enter",)
-            waits = always or d["value"] == 0
-            if waits:
-                yield ("wait", 0)
-            yield ("leave",)
-            return 90 if waits else 0
+    def go():
+        yield ("enter",)
+        yield ("wait", 0)
+        yield ("leave",)
 
-        def opens():
+    def opens():
+        yield ("enter",)
+        d["value"] += 1
+        yield ("pass", 0)
+        if (yield ("try",)):
+            d["value"] += 10
+        else:
             yield ("enter",)
-            d["value"] += 1
-            yield ("pass", 0)
-            if (yield ("try",)):
-                d["value"] += 10
-            else:
-                yield ("enter",)
-                d["value"] += 100
-            yield ("leave",)
-            return 0
-        return [go(), opens(), opens()], lambda results: d["value"] == 22 + sum(results.values())
-    return make
+            d["value"] += 100
+        yield ("leave",)
+    return [go(), opens(), opens()], lambda: d["value"] == 112
 
 
 def digits(threads, visits, wrong, stuck):
@@ -583,7 +320,7 @@ def digits(threads, visits, wrong, stuck):
                     yield ("wait", 0)
                 d["text"] += digit
                 yield ("leave",)
-        return [write(digit) for digit in "12345"[:threads]], lambda _: d["text"] != wrong
+        return [write(digit) for digit in "12345"[:threads]], lambda: d["text"] != wrong
     return make
 
 
@@ -597,51 +334,27 @@ def lost():
         yield ("enter",)
         d["value"] = value + 1
         yield ("leave",)
-    return [add(), add()], lambda _: d["value"] == 2
+    return [add(), add()], lambda: d["value"] == 2
 
 
 PROGRAMS = {
-    "visits-2-1": visits(2, 1),
-    "visits-3-2": visits(3, 2),
-    "visits-2-5": visits(2, 5),
-    "visits-4-1": visits(4, 1),
     "permits": permits,
-    "signals": signals,
-    "tries": tries(False),
-    "single-2": single(2),
-    "single-3": single(3),
-    "single-4": single(4),
-    "buffer-1": buffer(1, False),
-    "buffer-2": buffer(2, False),
-    "mesa-buffer": buffer(1, True),
-    "alarm": tickers,
-    "pool-2": single(2),  # one buffer is a single item
-    "pool-3": single(3),
-    "head-2": head(2),
-    "head-3": head(3),
-    "readers-3": readers(3),
-    "readers-4": readers(4),
-    "barrier": barrier,
-    "drain": drain,
-    "latch": latch,
-    "mailbox": mailbox,
-    "rendezvous": rendezvous,
-    "table": table([1, 1, 1]),
-    "work-queue": work_queue,
-    "weak-barrier": weak_barrier,
+    "visits": digits(3, 2, None, None),
+    "all-called": called("broadcast"),
+    "lost-wake": called("notify"),
     "gate": gate,
-    "lost-wake": lost_wake,
     "starving": starving(0),
-    "starving-6": starving(3),
-    "hungry": table([3, 1, 3]),
-    "late-alarm": late_alarm,
     "lost": lost,
-    "late-wait": tries(True),
+    "late-wait": late_wait,
     "wrong-last": digits(4, 2, "44332211", None),
     "stuck-last": digits(5, 1, None, "5432"),
+    "weak-barrier": weak_barrier,
+    "late-alarm": late_alarm,
+    "hungry": hungry,
+    "starving-6": starving(3),
 }
 PATIENCES = {"hungry": 16, "starving-6": 4}
-DRAWN = {"drawn": visits(3, 2), "drawn-alarm": late_alarm}
+DRAWN = {"drawn": PROGRAMS["visits"], "drawn-alarm": late_alarm}
 
 
 def main():

@@ -4,8 +4,9 @@
 What counts: the files in src, specs and proofs of each of these crates, without comments and empty lines, what a program
 stores in stdin and stdout, and their lines of crates.txt. The kit's version doesn't count.
 
-The records of the archives (tests/archives) and of the page's module (playground/build) have this hash. With its edits
-added it is the hash of a folder of wrong bodies (tests/mutants/run).
+The records of the archives and the programs (tests/archives) and of the page's module (playground/build) have this
+hash, and tools/program compares it. With its edits added it is the hash of a folder of wrong bodies
+(tests/mutants/run).
 """
 import hashlib
 import os

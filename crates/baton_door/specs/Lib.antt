@@ -1,6 +1,6 @@
 pub mod Words
 pub mod Rule
 pub mod Steps
-pub mod Newcomers
+pub mod Entering
 pub mod Places
 pub mod StepDoors

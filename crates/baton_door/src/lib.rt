@@ -3,9 +3,9 @@
 #![tactic(auto)]
 
 pub mod door;
+mod entering;
 mod handing;
 mod leaving;
-mod newcomers;
 mod parked;
 pub mod place;
 mod raw_monitor;

@@ -14,7 +14,7 @@ impl<D: MonitorData> RawBatonDoor<D> {
             HELD => Holder::Somebody,
             owed => Holder::Owed((owed - 2) as usize),
         };
-        let newcomers = self.parked.count();
-        Status { holder, newcomers }
+        let entering = self.parked.count();
+        Status { holder, entering }
     }
 }

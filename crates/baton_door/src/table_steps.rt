@@ -5,7 +5,7 @@ ghost use Rattle.hoare_law.specs.declared.event.Event.TheVariants as event;
 ghost use Rattle.wait_book.specs.Contents.{IsPlaceBelow};
 ghost use Rattle.door_frame.specs.Steps.{MayGive, MayNote, due};
 ghost use Rattle.door_frame.specs.Seats.{IsEmptyHanded, HasReleased, IsEntering, EntersWith, GoesOut, StaysIn};
-ghost use Rattle.baton_door.specs.Newcomers.{IsOutside, IsAdmitted};
+ghost use Rattle.baton_door.specs.Entering.{IsOutside, IsAdmitted};
 
 use crate::rule::{Admit, Claim, DoorKey, DoorTable};
 use crate::word::{DOOR, FREE, HELD, owed, word_of_next};
@@ -47,7 +47,7 @@ pub(crate) fn try_admit<D: MonitorData, K: DoorKey<D>>(
     requires wide { table.now.shared.table_id.words ≡ 8 }
     requires outside { IsEntering place seat.old.me }
     ensures table { seat.new.table_id ≡ seat.old.table_id }
-    ensures came { IfSome result (λ guarded. EntersWith D.rest D.ready place (λ f. event.Admit place)
+    ensures enters_with { IfSome result (λ guarded. EntersWith D.rest D.ready place (λ f. event.Admit place)
         seat.old.me guarded seat.new.me) }
     ensures same { IfNone result (seat.new.me ≡ seat.old.me) }
 {
@@ -70,7 +70,7 @@ pub(crate) fn try_claim<D: MonitorData, K: DoorKey<D>>(
     requires small { place < 64 }
     requires away { (f : History D) × IsEmptyHanded place f seat.old.me }
     ensures table { seat.new.table_id ≡ seat.old.table_id }
-    ensures came { IfSome result (λ guarded. EntersWith D.rest D.ready place (due place)
+    ensures enters_with { IfSome result (λ guarded. EntersWith D.rest D.ready place (due place)
         seat.old.me guarded seat.new.me) }
     ensures same { IfNone result (seat.new.me ≡ seat.old.me) }
 {
@@ -102,7 +102,7 @@ pub(crate) fn put_and_write<D: MonitorData, K: DoorKey<D>, J: PickedEvent<D>>(
     requires event { MayGive D.rest D.ready J.event place seat.old.me guarded next }
     ensures table { seat.new.table_id ≡ seat.old.table_id }
     ensures away { GoesOut place J.event seat.old.me guarded.state seat.new.me }
-    ensures behind { HasReleased seat.new.me }
+    ensures released { HasReleased seat.new.me }
 {
     guarded.held.since_handed = since_handed;
     put_guarded(table, seat, guarded);

@@ -1,7 +1,7 @@
 //! The queue book for C: each function that C calls. `bindings/c/zaulinte_book.h` declares them.
 //!
 //! `book` is a word and two pointers of C's, all 0 at first; `alloc` is nothing to C. No function has a premise: each
-//! returns for every number, and if there is no book. A returned place is below 64.
+//! returns for every number, and if there is no book. A returned place of a book that has a history is below 64.
 #![tactic(auto)]
 
 ghost use Rattle.std.specs.Prelude.{◌≡◌, ◌≤◌, ◌⊎◌, Some, None};

@@ -50,7 +50,7 @@ pub extern "C" fn zaulinte_door_give_out(
     ensures none { place.old.live ≡ 0 → door.old.live ≡ 0
         → (result ≡ 107) × (door.new ≡ door.old) × (place.new ≡ place.old) }
     ensures live { door.new.live ≡ door.old.live }
-    ensures gave { result < 64 → (place.new.live ≡ 1)
+    ensures given_out { result < 64 → (place.new.live ≡ 1)
         × GaveHeld door.old.handle.value.keeper door.new.handle.value.keeper place.new.handle.value result }
     ensures refused { 64 ≤ result → place.new ≡ place.old }
     ensures nothing { place.old.live ≡ 0 → door.old.live ≡ 1 → 64 ≤ result

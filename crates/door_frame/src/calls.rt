@@ -35,7 +35,7 @@ pub fn enter_with<D: MonitorData, S: Parking>(
     sleeper: S,
     mut guarded: GuardedBox<D>,
 ) -> Inside<D, S>
-    requires came { (f : History D)
+    requires entered_by { (f : History D)
         × EnteredBy D.rest D.ready place f (event.Admit place) guarded None seat.me }
     ensures { (f : History D)
         (c : EnteredBy D.rest D.ready place f (event.Admit place) guarded None seat.me)
@@ -55,7 +55,7 @@ fn return_with<D: MonitorData, S: Parking>(
     sleeper: S,
     mut guarded: GuardedBox<D>,
 ) -> Inside<D, S>
-    requires came { (f : History D)
+    requires entered_by { (f : History D)
         × EnteredBy D.rest D.ready place f (due place f) guarded None seat.me }
     ensures { (f : History D) (c : EnteredBy D.rest D.ready place f (due place f) guarded None seat.me)
         → result ≡ place_in (place_id seat.table_id (S.at seat.table_id sleeper)) place

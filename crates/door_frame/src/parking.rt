@@ -52,7 +52,7 @@ pub fn claim<D: MonitorData, T: Wakes<D>, R: Wait>(
     requires sleeper { sleeper.now ≡ sleeper_at (T.id door.now) place }
     requires away { (f : History D) × IsEmptyHanded place f seat.old.me }
     ensures table { seat.new.table_id ≡ seat.old.table_id }
-    ensures came { EntersWith D.rest D.ready place (due place) seat.old.me result seat.new.me }
+    ensures enters_with { EntersWith D.rest D.ready place (due place) seat.old.me result seat.new.me }
 {
     poll_for_turn(door, place);
     for _ in rt.forever() {

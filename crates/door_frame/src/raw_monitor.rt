@@ -53,7 +53,7 @@ pub trait RawMonitor<D: MonitorData> {
         requires table { seat.old.table_id ≡ (id self.now).table }
         requires outside { IsEntering place seat.old.me }
         ensures table { seat.new.table_id ≡ seat.old.table_id }
-        ensures came { IfSome result (λ guarded. EntersWith D.rest D.ready place (λ f. event.Admit place)
+        ensures enters_with { IfSome result (λ guarded. EntersWith D.rest D.ready place (λ f. event.Admit place)
             seat.old.me guarded seat.new.me) }
         ensures same { IfNone result (seat.new.me ≡ seat.old.me) };
 
@@ -69,7 +69,7 @@ pub trait RawMonitor<D: MonitorData> {
         requires small { place < (id self.now).places }
         requires away { (f : History D) × IsEmptyHanded place f seat.old.me }
         ensures table { seat.new.table_id ≡ seat.old.table_id }
-        ensures came { IfSome result (λ guarded. EntersWith D.rest D.ready place (due place)
+        ensures enters_with { IfSome result (λ guarded. EntersWith D.rest D.ready place (due place)
             seat.old.me guarded seat.new.me) }
         ensures same { IfNone result (seat.new.me ≡ seat.old.me) };
 

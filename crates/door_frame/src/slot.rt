@@ -34,7 +34,7 @@ pub fn put_guarded<D: MonitorData, K, W: Words<D, K>>(
     requires table { seat.old.table_id ≡ table.now.shared.table_id }
     requires empty { (v : SeatView D) × (seat.old.me ≡ (v, (0, None) ∷ [])) }
     ensures table { seat.new.table_id ≡ seat.old.table_id }
-    ensures laid { seat.new.me ≡ (seat.old.me.0, (0, Some guarded) ∷ []) }
+    ensures in_slot { seat.new.me ≡ (seat.old.me.0, (0, Some guarded) ∷ []) }
 {
     let old = table.shared.exchange(seat, 0, Some(guarded));
     let None = old else { unreachable!() };

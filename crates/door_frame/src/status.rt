@@ -20,7 +20,7 @@ pub struct Status {
     pub holder: Holder,
     /// The number of entering threads that were seen: on a ticket door those with a ticket that isn't served yet, on a
     /// baton door those that are parked.
-    pub newcomers: u64,
+    pub entering: u64,
 }
 
 impl Display for Holder {
@@ -35,6 +35,6 @@ impl Display for Holder {
 
 impl Display for Status {
     fn fmt<W: Write>(&self, f: &mut Formatter<W>) -> fmt::Result {
-        write!(f, "{}, {} waiting to enter", self.holder, self.newcomers)
+        write!(f, "{}, {} waiting to enter", self.holder, self.entering)
     }
 }

@@ -75,13 +75,14 @@ impl HeldDoor {
 
     /// Gives a place out into `place`, and returns its number, below 64. Refused, in this order: `IS_HELD` if `place`
     /// holds one, `NOTHING_HELD` if no door is held, and as `Keeper::give_out`; `NO_MEMORY` also if the box for the
-    /// place can't be allocated: then the place is given back. A refusal leaves `place` as it was.
+    /// place can't be allocated: then the place is given back, if its slot isn't in use. A refusal leaves `place` as it
+    /// was.
     pub fn give_out(&mut self, alloc: Global, place: &mut HeldPlace) -> u64
         ensures held { place.old.live ≡ 1 → (result ≡ 108) × (self.new ≡ self.old) × (place.new ≡ place.old) }
         ensures none { place.old.live ≡ 0 → self.old.live ≡ 0
             → (result ≡ 107) × (self.new ≡ self.old) × (place.new ≡ place.old) }
         ensures live { self.new.live ≡ self.old.live }
-        ensures gave { result < 64 → (place.new.live ≡ 1)
+        ensures given_out { result < 64 → (place.new.live ≡ 1)
             × GaveHeld self.old.handle.value.keeper self.new.handle.value.keeper place.new.handle.value result }
         ensures refused { 64 ≤ result → place.new ≡ place.old }
         ensures nothing { place.old.live ≡ 0 → self.old.live ≡ 1 → 64 ≤ result

@@ -124,7 +124,7 @@ impl Keeper {
     /// `NONE_LEFT` if no place is in hand then, and `NO_MEMORY` if an allocation failed.
     pub fn give_out(&mut self) -> Result<Place, u64>
         ensures door { self.new.door ≡ self.old.door }
-        ensures gave { IfOk result (λ p. (p.door ≡ self.old.door) × GaveOut self.old.outs self.new.outs p.state) }
+        ensures given_out { IfOk result (λ p. (p.door ≡ self.old.door) × GaveOut self.old.outs self.new.outs p.state) }
         ensures of { IfOk result (λ p. IsState p.door p.state) }
         ensures refused { IfErr result (λ code. GaveNone self.old.outs self.new.outs code) }
     {

@@ -41,7 +41,7 @@ pub fn nothing_intervenes<S>()
 
 /// A process enters only if no signaller waits to return (Hoare 1974, Interpretation), and no notified process has yet
 /// to resume.
-pub fn newcomers_last<S>()
+pub fn entering_last<S>()
     ensures signallers { (h : History S) (k : ℕ) (s : S) → Allowed h (Admit k s)
         → urgent h.events ≡ [] }
     ensures called { (h : History S) (k : ℕ) (s : S) → Allowed h (Admit k s)

@@ -17,8 +17,8 @@ impl<D: MonitorData> RawTicketDoor<D> {
             None if unserved == 0 => Holder::Nobody,
             None => Holder::Somebody,
         };
-        let newcomers = unserved.saturating_sub(1);
-        Status { holder, newcomers }
+        let entering = unserved.saturating_sub(1);
+        Status { holder, entering }
     }
 
     /// Returns the first place whose bell is rung, or `None`.

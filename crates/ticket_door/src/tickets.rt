@@ -33,7 +33,7 @@ impl<D: MonitorData> RawTicketDoor<D> {
         requires table { seat.old.table_id ≡ self.now.door.table }
         requires first { self.now.first ≡ J.first }
         requires places { self.now.door.places ≡ J.places }
-        requires newcomer { IsEntering place seat.old.me }
+        requires entering { IsEntering place seat.old.me }
         ensures table { seat.new.table_id ≡ seat.old.table_id }
         ensures drawn { (f : History D) → IsEmptyHanded place f seat.old.me → (g : History D) × (x : ℕ)
             × TakesTicket D.rest D.ready self.now.door.places place f g x seat.new.me
@@ -97,7 +97,7 @@ impl<D: MonitorData> RawTicketDoor<D> {
         requires asked { (f : History D) × (x : ℕ) × IsAsking place f x seat.old.me × (ticket
             ≡ (self.now.first + x) % 2 ^ 64) × (outside place f.events ≡ true) }
         ensures table { seat.new.table_id ≡ seat.old.table_id }
-        ensures came { (f : History D) (x : ℕ) → IsAsking place f x seat.old.me
+        ensures enters_with { (f : History D) (x : ℕ) → IsAsking place f x seat.old.me
             → (c : EnteredBy D.rest D.ready place f (event.Admit place) result None seat.new.me)
             × (admissions c.log.events ≡ x) }
     {
@@ -108,8 +108,8 @@ impl<D: MonitorData> RawTicketDoor<D> {
         take_guarded(&self.table, seat)
     }
 
-    /// Takes the next ticket. The place learns all that happened so far. `come_in` enters with the ticket, after
-    /// exactly the threads that had a ticket before it and had not entered: fewer than the door has places.
+    /// Takes the next ticket. The place learns all that happened so far. `come_in` enters with the ticket, after as
+    /// many others as there are tickets before it that are not served yet: fewer than the door has places.
     #[inline]
     pub fn ask(&self, out: TicketOut<D>) -> Asked<D>
         requires { IsOut D.rest D.ready (kinds_of D.CONDITIONS D.MESA) self.now.door out }
@@ -127,8 +127,8 @@ impl<D: MonitorData> RawTicketDoor<D> {
         }
     }
 
-    /// Enters once the ticket is served: after exactly the threads that had a ticket before it and had not entered when
-    /// it was taken, fewer than the door has places.
+    /// Enters once the ticket is served: after as many others as there were tickets before it, when it was taken, that
+    /// were not served yet. They are fewer than the door has places.
     #[inline]
     pub fn come_in<R: Wait>(&self, rt: &R, asked: Asked<D>) -> TicketIn<D>
         requires { IsAsked D.rest D.ready (kinds_of D.CONDITIONS D.MESA) self.now asked }
@@ -137,7 +137,7 @@ impl<D: MonitorData> RawTicketDoor<D> {
         ensures rest { D.rest result.state (priorities result.front.events) }
         ensures front { AddsLast asked.front (event.Admit asked.place result.state) result.front }
         ensures in_turn { EntersBy self.now.first asked.ticket result.front }
-        ensures behind { WaitsBehind self.now.door.places asked result }
+        ensures admissions_before { WaitsBehind self.now.door.places asked result }
     {
         let Asked {
             mut seat,

@@ -34,7 +34,7 @@ impl Book {
     }
 
     // Returns the place if it may enter. Refuses, in this order, with `NoPlace`, `NotFree` and `NotOutside`.
-    fn newcomer(&self, place: u64) -> Result<usize, StepRefused>
+    fn entering(&self, place: u64) -> Result<usize, StepRefused>
         ensures ok { IfOk result (λ k. (k ≡ place) × (self.now.turn ≡ turns.Free)
             × (k < self.now.sizes.places) × (times_in k self.now ≡ 0)) }
         ensures of { (h : History (Unit {0})) → IsOf self.now h → MatchResult result
@@ -154,7 +154,7 @@ impl Book {
     {
         match step {
             Step::Enter(place) => {
-                let place = self.newcomer(place)?;
+                let place = self.entering(place)?;
                 self.admit(place);
                 return Ok(Next::Held(place));
             }

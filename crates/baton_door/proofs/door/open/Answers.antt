@@ -18,7 +18,7 @@ pub store-requires : goal.store-requires
 store-requires g c =
     let D = g.D.MonitorData in
     let begun = c.compare_exchange.ensures.2 _ (ap (λ (m : SeatState g.row.D.Denot). m.0) c.requires.seat) in
-    let laid = c.put_guarded.ensures.laid ∙ laid_down c.args.guarded refl begun in (
+    let laid = c.put_guarded.ensures.in_slot ∙ laid_down c.args.guarded refl begun in (
       search rules,
       search rules,
       opens_as D.rest D.ready (g.K.DoorKey.kinds c.args.table.now.shared.key) _ g.J.PickedKinds.kinds c.requires.kinds
@@ -28,5 +28,5 @@ store-requires g c =
 pub returns-clause-opened : goal.returns-clause-opened
 returns-clause-opened g c =
     let begun = c.compare_exchange.ensures.2 _ (ap (λ (m : SeatState g.row.D.Denot). m.0) c.requires.seat) in
-    let laid = c.put_guarded.ensures.laid ∙ laid_down c.args.guarded refl begun in
+    let laid = c.put_guarded.ensures.in_slot ∙ laid_down c.args.guarded refl begun in
     c.store.ensures.2 _ c.args.guarded laid

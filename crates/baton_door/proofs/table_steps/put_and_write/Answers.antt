@@ -9,7 +9,7 @@ store-requires g c =
     let D = g.D.MonitorData in
     let wide = c.requires.wide in
     let same = unpacked c.deref_mut.ensures.value c.guarded.view_is in
-    let laid = c.put_guarded.ensures.laid ∙ laid_down c.args.guarded same e.1 in (
+    let laid = c.put_guarded.ensures.in_slot ∙ laid_down c.args.guarded same e.1 in (
       c.put_guarded.ensures.table ∙ c.requires.table,
       omega (arith, wide),
       gives_at D.rest D.ready
@@ -21,12 +21,12 @@ store-requires g c =
 pub returns-clause-away : goal.returns-clause-away
 returns-clause-away g c = λ f is.
     let same = unpacked c.deref_mut.ensures.value c.guarded.view_is in
-    let laid = c.put_guarded.ensures.laid ∙ laid_down c.args.guarded same is in
+    let laid = c.put_guarded.ensures.in_slot ∙ laid_down c.args.guarded same is in
     c.store.ensures.2 c.args.place f c.args.guarded laid
 
-pub returns-clause-behind : goal.returns-clause-behind
-returns-clause-behind g c =
+pub returns-clause-released : goal.returns-clause-released
+returns-clause-released g c =
     let e = c.requires.event in
     let same = unpacked c.deref_mut.ensures.value c.guarded.view_is in
-    let laid = c.put_guarded.ensures.laid ∙ laid_down c.args.guarded same e.1 in
+    let laid = c.put_guarded.ensures.in_slot ∙ laid_down c.args.guarded same e.1 in
     (c.args.place, _, c.store.ensures.2 c.args.place e.0 c.args.guarded laid, e.2.given_up)

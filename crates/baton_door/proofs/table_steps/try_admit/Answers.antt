@@ -12,8 +12,8 @@ take_guarded-requires-clause-full g c =
     let out = c.requires.outside in
     let t = c.try_in.ensures.let_in c.if-not-try_in.false c.args.place out.0 out.1 in (_, t.0, t.1.me_is)
 
-pub returns-clause-came : goal.returns-clause-came
-returns-clause-came g c = λ f away.
+pub returns-clause-enters_with : goal.returns-clause-enters_with
+returns-clause-enters_with g c = λ f away.
     let D = g.D.MonitorData in
     let t = c.try_in.ensures.let_in c.if-not-try_in.false c.args.place f away in
     took D.rest D.ready t.1 c.take_guarded.ensures.taken c.take_guarded.ensures.empty

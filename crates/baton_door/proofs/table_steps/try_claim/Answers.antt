@@ -20,8 +20,8 @@ take_guarded-requires-clause-full g c =
     let t = (c.compare_exchange.ensures.2 c.args.place away.0 away.1).1 c.if-compare_exchange-mine.true in
     (_, t.0, t.1.me_is)
 
-pub returns-then-compare_exchange-mine-clause-came : goal.returns-then-compare_exchange-mine-clause-came
-returns-then-compare_exchange-mine-clause-came g c = λ f is.
+pub returns-then-compare_exchange-mine-clause-enters_with : goal.returns-then-compare_exchange-mine-clause-enters_with
+returns-then-compare_exchange-mine-clause-enters_with g c = λ f is.
     let D = g.D.MonitorData in
     let t = (c.compare_exchange.ensures.2 c.args.place f is).1 c.if-compare_exchange-mine.true in
     took D.rest D.ready t.1 c.take_guarded.ensures.taken c.take_guarded.ensures.empty

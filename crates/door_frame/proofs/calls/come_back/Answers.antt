@@ -22,11 +22,11 @@ claim-guarded-requires-clause-away g c =
 pub return_with-requires : goal.return_with-requires
 return_with-requires g c =
     let parts = c.into_parts-seat.ensures in
-    record { came = (c.args.away.front, c.claim-guarded.ensures.came c.args.away.front (away_as parts.1 parts.2)) }
+    record { entered_by = (c.args.away.front, c.claim-guarded.ensures.enters_with c.args.away.front (away_as parts.1 parts.2)) }
 
 pub returns : goal.returns
 returns g c =
     let parts = c.into_parts-seat.ensures in
-    let came = c.claim-guarded.ensures.came c.args.away.front (away_as parts.1 parts.2) in
+    let came = c.claim-guarded.ensures.enters_with c.args.away.front (away_as parts.1 parts.2) in
     came_back c.args.away _ _ c.requires (place_id_as _ c.claim-guarded.ensures.table ∙ parts.0) parts.1 came
     (c.return_with.ensures _ came)

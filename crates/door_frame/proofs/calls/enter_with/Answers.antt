@@ -15,24 +15,24 @@ use Rattle.door_frame.proofs.calls.enter_with.Goals as goal
 pub admit-requires-clause-free : goal.admit-requires-clause-free
 admit-requires-clause-free g c =
     let D = g.D.MonitorData in
-    let in_ = came_as (unpacked c.deref_mut.ensures.value c.guarded.view_is) c.requires.came.1 in
+    let in_ = came_as (unpacked c.deref_mut.ensures.value c.guarded.view_is) c.requires.entered_by.1 in
     turn-history _ in_.log in_.book ∙ (IsLegal-last in_.log _ in_.stands.legal).fits.0
 
 pub admit-requires-clause-place : goal.admit-requires-clause-place
 admit-requires-clause-place g c =
     let D = g.D.MonitorData in
-    let in_ = came_as (unpacked c.deref_mut.ensures.value c.guarded.view_is) c.requires.came.1 in
+    let in_ = came_as (unpacked c.deref_mut.ensures.value c.guarded.view_is) c.requires.entered_by.1 in
     subst (λ (n : Sizes). c.args.place < n.places) in_.book.sizes (IsLegal-last in_.log _ in_.stands.legal).in_range.0
 
 pub admit-requires-clause-outside : goal.admit-requires-clause-outside
 admit-requires-clause-outside g c =
     let D = g.D.MonitorData in
-    let in_ = came_as (unpacked c.deref_mut.ensures.value c.guarded.view_is) c.requires.came.1 in
+    let in_ = came_as (unpacked c.deref_mut.ensures.value c.guarded.view_is) c.requires.entered_by.1 in
     times_in-outside _ in_.log _ in_.book (IsLegal-last in_.log _ in_.stands.legal).fits.1
 
 pub of_parts-requires : goal.of_parts-requires
 of_parts-requires g c =
-    let in_ = came_as (unpacked c.deref_mut.ensures.value c.guarded.view_is) c.requires.came.1 in (
+    let in_ = came_as (unpacked c.deref_mut.ensures.value c.guarded.view_is) c.requires.entered_by.1 in (
       _,
       (
         in_.me_is,

@@ -14,16 +14,16 @@ use Rattle.door_frame.proofs.calls.return_with.Goals as goal
 pub claim-requires : goal.claim-requires
 claim-requires g c =
     let D = g.D.MonitorData in
-    let f = c.requires.came.0 in
-    let in_ = came_as (unpacked c.deref_mut.ensures.value c.guarded.view_is) c.requires.came.1 in
+    let f = c.requires.entered_by.0 in
+    let in_ = came_as (unpacked c.deref_mut.ensures.value c.guarded.view_is) c.requires.entered_by.1 in
     let back =
     is_due_by c.args.place in_.log f c.deref_mut.result.now.contents.book _ (IsLegal-last in_.log _ in_.stands.legal) in
     ap next_of (turn-history _ in_.log in_.book) ∙ back.turn_is
 
 pub of_parts-requires : goal.of_parts-requires
 of_parts-requires g c =
-    let in_ = came_as (unpacked c.deref_mut.ensures.value c.guarded.view_is) c.requires.came.1 in
-    let f = c.requires.came.0 in
+    let in_ = came_as (unpacked c.deref_mut.ensures.value c.guarded.view_is) c.requires.entered_by.1 in
+    let f = c.requires.entered_by.0 in
     let back = is_due_by c.args.place in_.log f c.claim.new.self _ (IsLegal-last in_.log _ in_.stands.legal) in
     (_, (in_.me_is, back.settles (c.claim.ensures.of (dataless in_.log) in_.book)))
 

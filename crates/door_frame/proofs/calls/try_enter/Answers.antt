@@ -16,12 +16,12 @@ try_admit-requires-clause-outside g c =
 pub enter_with-requires : goal.enter_with-requires
 enter_with-requires g c =
     let parts = c.into_parts-seat.ensures in
-    record { came = (c.args.out.front, c.in-Some.ensures.came c.args.out.front (away_as parts.1 parts.2)) }
+    record { entered_by = (c.args.out.front, c.in-Some.ensures.enters_with c.args.out.front (away_as parts.1 parts.2)) }
 
 pub returns-in-Some : goal.returns-in-Some
 returns-in-Some g c =
     let parts = c.into_parts-seat.ensures in
-    let came = c.in-Some.ensures.came c.args.out.front (away_as parts.1 parts.2) in
+    let came = c.in-Some.ensures.enters_with c.args.out.front (away_as parts.1 parts.2) in
     let e =
     entered c.args.out _ _ c.requires (place_id_on g.S.Parking.at _ c.in-Some.ensures.table ∙ parts.0) parts.1 came
     (c.enter_with.ensures _ came) in

@@ -13,12 +13,12 @@ try_claim-requires-clause-away g c =
 pub return_with-requires : goal.return_with-requires
 return_with-requires g c =
     let parts = c.into_parts-seat.ensures in
-    record { came = (c.args.away.front, c.in-Some.ensures.came c.args.away.front (away_as parts.1 parts.2)) }
+    record { entered_by = (c.args.away.front, c.in-Some.ensures.enters_with c.args.away.front (away_as parts.1 parts.2)) }
 
 pub returns-in-Some : goal.returns-in-Some
 returns-in-Some g c =
     let parts = c.into_parts-seat.ensures in
-    let came = c.in-Some.ensures.came c.args.away.front (away_as parts.1 parts.2) in
+    let came = c.in-Some.ensures.enters_with c.args.away.front (away_as parts.1 parts.2) in
     record {
       back =
           came_back c.args.away _ _ c.requires (place_id_on g.S.Parking.at _ c.in-Some.ensures.table ∙ parts.0) parts.1

@@ -11,5 +11,5 @@ pub returns : goal.returns
 returns g c =
     record {
       table = c.exchange-old.ensures.0;
-      laid = slot_now None (Some c.args.guarded) c.requires.empty.1 c.exchange-old.ensures.3;
+      in_slot = slot_now None (Some c.args.guarded) c.requires.empty.1 c.exchange-old.ensures.3;
     }

@@ -27,7 +27,7 @@ load-requires-2 g c =
     let D = g.D.MonitorData in
     let key = c.args.table.now.shared.key in
     let begun = c.load.ensures.2 _ (ap (λ (m : SeatState g.row.D.Denot). m.0) c.requires.seat) in
-    let laid = c.put_guarded.ensures.laid ∙ laid_down c.args.guarded refl begun in (
+    let laid = c.put_guarded.ensures.in_slot ∙ laid_down c.args.guarded refl begun in (
       search rules,
       search rules,
       opens_at key.first key.places D.rest D.ready
@@ -37,5 +37,5 @@ load-requires-2 g c =
 pub returns-clause-opened : goal.returns-clause-opened
 returns-clause-opened g c =
     let begun = c.load.ensures.2 _ (ap (λ (m : SeatState g.row.D.Denot). m.0) c.requires.seat) in
-    let laid = c.put_guarded.ensures.laid ∙ laid_down c.args.guarded refl begun in
+    let laid = c.put_guarded.ensures.in_slot ∙ laid_down c.args.guarded refl begun in
     c.load-2.ensures.2 _ c.args.guarded laid

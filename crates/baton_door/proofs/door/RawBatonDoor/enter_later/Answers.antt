@@ -21,7 +21,7 @@ enter_with-requires g c =
     let parts = c.into_parts-seat.ensures in
     let t = c.keep_trying.ensures.let_in _ c.args.out.front (away_as parts.1 parts.2) in
     let came = took D.rest D.ready t.1 c.take_guarded-guarded.ensures.taken c.take_guarded-guarded.ensures.empty in
-    record { came = (c.args.out.front, came) }
+    record { entered_by = (c.args.out.front, came) }
 
 pub returns : goal.returns
 returns g c =

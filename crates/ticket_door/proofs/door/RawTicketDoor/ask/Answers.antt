@@ -5,8 +5,8 @@ use Rattle.door_frame.proofs.Seats.{away_as, place_id_as}
 use Rattle.ticket_door.proofs.Asking.{asking_alone, asking_front, asking_number, asking_by, takes_ticket_as}
 use Rattle.ticket_door.proofs.door.RawTicketDoor.ask.Goals as goal
 
-pub draw-ticket-requires-clause-newcomer : goal.draw-ticket-requires-clause-newcomer
-draw-ticket-requires-clause-newcomer g c =
+pub draw-ticket-requires-clause-entering : goal.draw-ticket-requires-clause-entering
+draw-ticket-requires-clause-entering g c =
     let p = c.into_parts-seat.ensures in (
       c.args.out.front,
       away_as p.1 p.2,

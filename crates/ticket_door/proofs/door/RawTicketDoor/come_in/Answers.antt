@@ -21,9 +21,9 @@ served-guarded-requires-clause-asked g c =
 pub enter_with-requires : goal.enter_with-requires
 enter_with-requires g c =
     record {
-      came = (
+      entered_by = (
         front_of c.asked.inside.seat.me.0 c.asked.inside.alone,
-        (c.served-guarded.ensures.came _ _ c.asked.invariant).0,
+        (c.served-guarded.ensures.enters_with _ _ c.asked.invariant).0,
       );
     }
 
@@ -32,9 +32,9 @@ returns g c =
     let D = g.D.MonitorData in
     let o =
     subst (IsAsked D.rest D.ready (kinds_of D.CONDITIONS D.MESA) c.args.self.now) (sym c.asked.view_is) c.requires in
-    let m = c.served-guarded.ensures.came _ _ c.asked.invariant in
+    let m = c.served-guarded.ensures.enters_with _ _ c.asked.invariant in
     let r =
     came_in D.rest D.ready (kinds_of D.CONDITIONS D.MESA) c.asked.view_is o
     (place_id_as _ c.served-guarded.ensures.table) m.0 m.1
     (c.enter_with.ensures _ m.0) in
-    record { of = r.of; place = r.place; rest = r.rests; front = r.front; in_turn = r.in_turn; behind = r.behind }
+    record { of = r.of; place = r.place; rest = r.rests; front = r.front; in_turn = r.in_turn; admissions_before = r.behind }

@@ -11,14 +11,14 @@ pub fetch_add-requires : goal.fetch_add-requires
 fetch_add-requires g c =
     let t = c.self.inside.table.shared in
     let D = g.D.MonitorData in
-    let newcomer = c.requires.newcomer in
+    let entering = c.requires.entering in
     let wide = c.self.invariant.words_are in
     let first = ap (λ (d : TicketDoorId). d.first) c.self.view_is ∙ c.requires.first in
     let places = ap (λ (d : TicketDoorId). d.door.places) c.self.view_is ∙ c.requires.places in (
       c.requires.table ∙ ap (λ (d : TicketDoorId). d.door.table) (sym c.self.view_is),
       omega (arith, wide),
-      takes_ticket_at t.key.first t.key.places D.rest D.ready (kinds_of D.CONDITIONS D.MESA) _ _ c.args.place newcomer.0
-          (step t.table_id.slots 8 1 0 none) _ _ _ newcomer.1 first places newcomer.2,
+      takes_ticket_at t.key.first t.key.places D.rest D.ready (kinds_of D.CONDITIONS D.MESA) _ _ c.args.place entering.0
+          (step t.table_id.slots 8 1 0 none) _ _ _ entering.1 first places entering.2,
     )
 
 pub returns-clause-drawn : goal.returns-clause-drawn

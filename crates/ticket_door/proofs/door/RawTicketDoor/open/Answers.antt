@@ -13,7 +13,7 @@ fetch_add-requires g c =
     let D = g.D.MonitorData in
     let t = c.self.inside.table.shared in
     let wide = c.self.invariant.words_are in
-    let laid = c.put_guarded.ensures.laid ∙ laid_down c.args.guarded refl e.1 in (
+    let laid = c.put_guarded.ensures.in_slot ∙ laid_down c.args.guarded refl e.1 in (
       c.put_guarded.ensures.table ∙ c.requires.table ∙ ap (λ (d : TicketDoorId). d.door.table) (sym c.self.view_is),
       omega (arith, wide),
       gives_open_at t.key.first t.key.places D.rest D.ready
@@ -24,4 +24,4 @@ fetch_add-requires g c =
 pub returns-clause-away : goal.returns-clause-away
 returns-clause-away g c = λ f is.
     c.fetch_add.ensures.2 c.args.place f c.args.guarded
-    (c.put_guarded.ensures.laid ∙ laid_down c.args.guarded refl is)
+    (c.put_guarded.ensures.in_slot ∙ laid_down c.args.guarded refl is)

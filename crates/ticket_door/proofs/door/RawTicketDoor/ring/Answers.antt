@@ -24,7 +24,7 @@ store-requires g c =
     let places = ap (λ (d : TicketDoorId). d.door.places) c.self.view_is in
     let asked = c.requires.below in
     let below : j < t.key.places = omega (arith, asked, places) in
-    let laid = c.put_guarded.ensures.laid ∙ laid_down c.args.guarded refl e.1 in (
+    let laid = c.put_guarded.ensures.in_slot ∙ laid_down c.args.guarded refl e.1 in (
       c.put_guarded.ensures.table ∙ c.requires.table ∙ ap (λ (d : TicketDoorId). d.door.table) (sym c.self.view_is),
       omega (arith, wide, below, c.bell_of.ensures),
       gives_ring_at t.key.first t.key.places D.rest D.ready
@@ -41,7 +41,7 @@ wake-requires g c =
         c.args.place,
         _,
         c.store.ensures.2 c.args.place e.0 c.args.guarded
-            (c.put_guarded.ensures.laid ∙ laid_down c.args.guarded refl e.1),
+            (c.put_guarded.ensures.in_slot ∙ laid_down c.args.guarded refl e.1),
         e.2.given_up,
       );
     }
@@ -49,7 +49,7 @@ wake-requires g c =
 pub returns-clause-away : goal.returns-clause-away
 returns-clause-away g c = λ f is.
     c.store.ensures.2 c.args.place f c.args.guarded
-    (c.put_guarded.ensures.laid ∙ laid_down c.args.guarded refl is)
+    (c.put_guarded.ensures.in_slot ∙ laid_down c.args.guarded refl is)
 
 pub returns-clause-woken : goal.returns-clause-woken
 returns-clause-woken g c =

@@ -8,8 +8,8 @@ take_guarded-requires-clause-full g c =
     let a = c.requires.asked in let t = c.is_served.ensures.let_in c.if-is_served.true a.0 a.1 a.2 in
     (_, t.0, t.1.me_is)
 
-pub returns-then-is_served-clause-came : goal.returns-then-is_served-clause-came
-returns-then-is_served-clause-came g c = λ f x is.
+pub returns-then-is_served-clause-enters_with : goal.returns-then-is_served-clause-enters_with
+returns-then-is_served-clause-enters_with g c = λ f x is.
     let D = g.D.MonitorData in
     let t = c.is_served.ensures.let_in c.if-is_served.true f x is in
     took_also D.rest D.ready
@@ -26,8 +26,8 @@ take_guarded-requires-2-clause-full g c =
     let t = c.keep_polling.ensures.let_in a.0 a.1 (c.is_served.ensures.missed c.if-is_served.false ∙ a.2) in
     (_, t.0, t.1.me_is)
 
-pub returns-clause-came : goal.returns-clause-came
-returns-clause-came g c = λ f x is.
+pub returns-clause-enters_with : goal.returns-clause-enters_with
+returns-clause-enters_with g c = λ f x is.
     let D = g.D.MonitorData in
     let t = c.keep_polling.ensures.let_in f x (c.is_served.ensures.missed c.if-is_served.false ∙ is) in
     took_also D.rest D.ready

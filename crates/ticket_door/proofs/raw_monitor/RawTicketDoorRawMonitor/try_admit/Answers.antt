@@ -28,8 +28,8 @@ take_guarded-requires-clause-full g c =
     let t = c.try_in-let_in.ensures.let_in c.if-not-let_in.false out.0 trying in
     (_, t.0, (came_by t.1 c.reopen.ensures.opened).me_is)
 
-pub returns-clause-came : goal.returns-clause-came
-returns-clause-came g c = λ f away.
+pub returns-clause-enters_with : goal.returns-clause-enters_with
+returns-clause-enters_with g c = λ f away.
     let D = g.D.MonitorData in
     let t = c.try_in-let_in.ensures.let_in c.if-not-let_in.false f (c.shut.ensures.shut c.if-not-shut.false f away) in
     took D.rest D.ready (came_by t.1 c.reopen.ensures.opened) c.take_guarded.ensures.taken c.take_guarded.ensures.empty

@@ -29,8 +29,8 @@ take_guarded-requires-clause-full g c =
     let away = c.requires.away in
     let t = (c.swap.ensures.2 c.args.place away.0 away.1).1 c.if-swap-eq-RUNG.true in (_, t.0, t.1.me_is)
 
-pub returns-then-swap-eq-RUNG-clause-came : goal.returns-then-swap-eq-RUNG-clause-came
-returns-then-swap-eq-RUNG-clause-came g c = λ f is.
+pub returns-then-swap-eq-RUNG-clause-enters_with : goal.returns-then-swap-eq-RUNG-clause-enters_with
+returns-then-swap-eq-RUNG-clause-enters_with g c = λ f is.
     let D = g.D.MonitorData in
     let t = (c.swap.ensures.2 c.args.place f is).1 c.if-swap-eq-RUNG.true in
     took D.rest D.ready t.1 c.take_guarded.ensures.taken c.take_guarded.ensures.empty

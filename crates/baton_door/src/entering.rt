@@ -6,7 +6,7 @@ ghost use Rattle.hoare_law.specs.Growth.{AddsLast};
 ghost use Rattle.hoare_law.specs.Priorities.{priorities};
 ghost use Rattle.hoare_law.specs.Sizes.{kinds_of};
 ghost use Rattle.door_frame.specs.Places.{IsIn, IsOut};
-ghost use Rattle.baton_door.specs.Newcomers.{IsOutside, IsAdmitted};
+ghost use Rattle.baton_door.specs.Entering.{IsOutside, IsAdmitted};
 
 use crate::door::RawBatonDoor;
 use crate::place::{DoorIn, DoorOut};

@@ -17,9 +17,9 @@ use std::process::Abort;
 use std::rt::Clock;
 use std::sync::Wait;
 use std::sync::atomic::{AtomicU64, Ordering};
-use std::thread;
 use std::thread::Threads;
 use std::time::Duration;
+use std::{hint, thread};
 use test_support::drawn::draw;
 use test_support::running::count_waiting;
 
@@ -39,6 +39,9 @@ const TICKET_ROUNDS: u64 = 60;
 
 /// The most attempts of a place before it blocks in `enter`.
 const TRIES: u64 = 20;
+
+/// For how many spin hints a process stays inside now and then: longer than a thread polls, so that others sleep.
+const STAY: u32 = 10_000;
 
 /// What the processes leave in the monitor: data without assertions. Of the eight conditions the last two are Mesa
 /// conditions.
@@ -104,7 +107,15 @@ struct Mine {
     visits: u64,
 }
 
-// The process has the data: compares the stamp with what the last process left, and leaves the next drawn number.
+// Lets the time of `hints` spin hints pass.
+fn stay(hints: u32) {
+    for _ in 0..hints {
+        hint::spin_loop();
+    }
+}
+
+// The process has the data: compares the stamp with what the last process left, and leaves the next drawn number. One
+// of 32 times it stays for long.
 fn has_data<M: Monitor<Stamps>>(m: &M, inside: M::In, day: &Day, mine: &mut Mine) -> M::In
     requires { M.is_of_in m.now inside }
     ensures of { M.is_of_in m.now result }
@@ -119,6 +130,9 @@ fn has_data<M: Monitor<Stamps>>(m: &M, inside: M::In, day: &Day, mine: &mut Mine
     data.torn = data.torn.wrapping_add(u64::from(data.stamp != last));
     data.stamp = mine.seed;
     data.visits = data.visits.wrapping_add(1);
+    if mine.lot % 32 == 0 {
+        stay(STAY);
+    }
     inside
 }
 

@@ -14,7 +14,6 @@ use crate::door::RawAnyDoor;
 use door_frame::guarded::GuardedBox;
 use door_frame::notification::Notification;
 use door_frame::place::{Inside, Outside};
-use door_frame::polling::Polling;
 use door_frame::raw_monitor::{RawMonitor, Runs, Wakes};
 use door_frame::release::Release;
 use door_frame::seat_steps::DoorSeat;
@@ -32,26 +31,11 @@ impl<D: MonitorData> RawMonitor<D> for RawAnyDoor<D> {
 
     ghost is_woken = { IsWoken };
 
-    fn polling(&self) -> Polling {
-        match self {
-            RawAnyDoor::Baton(door) => door.polling(),
-            RawAnyDoor::Ticket(door) => door.polling(),
-        }
-    }
-
     #[inline]
     fn try_admit(&self, seat: &mut DoorSeat<D>, place: usize) -> Option<GuardedBox<D>> {
         match self {
             RawAnyDoor::Baton(door) => door.try_admit(seat, place),
             RawAnyDoor::Ticket(door) => door.try_admit(seat, place),
-        }
-    }
-
-    #[inline]
-    fn is_owed(&self, place: usize) -> bool {
-        match self {
-            RawAnyDoor::Baton(door) => door.is_owed(place),
-            RawAnyDoor::Ticket(door) => door.is_owed(place),
         }
     }
 
@@ -111,6 +95,22 @@ impl<D: MonitorData> RawMonitor<D> for RawAnyDoor<D> {
 
 impl<D: MonitorData> Wakes<D> for RawAnyDoor<D> {
     ghost woken = { λ w. w };
+
+    #[inline]
+    fn is_owed(&self, place: usize) -> bool {
+        match self {
+            RawAnyDoor::Baton(door) => door.is_owed(place),
+            RawAnyDoor::Ticket(door) => door.is_owed(place),
+        }
+    }
+
+    #[inline]
+    fn hints_between_polls(&self) -> u32 {
+        match self {
+            RawAnyDoor::Baton(door) => door.hints_between_polls(),
+            RawAnyDoor::Ticket(door) => door.hints_between_polls(),
+        }
+    }
 
     ghost wakes = { λ d next w is. is };
 }

@@ -7,7 +7,7 @@ ghost use Rattle.wait_book.specs.Contents.{IsOf};
 ghost use Rattle.door_frame.specs.declared.view.SeatView.TheVariants.{Unopened, Places};
 ghost use Rattle.door_frame.specs.Views.{all_know};
 
-use crate::parked::Parked;
+use crate::entrance::Entrance;
 use crate::rule::{DoorKey, DoorTable};
 use crate::word::{DOOR, FREE, HELD};
 use crossbeam_utils::CachePadded;
@@ -18,7 +18,6 @@ use door_frame::slot::put_guarded;
 use door_frame::waking::Waker;
 use hoare_law::data::MonitorData;
 use std::marker::Model;
-use std::sync::atomic::AtomicBool;
 
 /// A monitor whose calls block the calling thread if they must: it implements `Monitor`. (The calls of a `StepDoor`
 /// never block.) Threads share it by reference, each with its own place.
@@ -48,11 +47,8 @@ pub struct RawBatonDoor<D: MonitorData> {
     pub(crate) table: DoorTable<D>,
     /// What wakes each place: that of place k is at index k.
     pub(crate) wakers: Vec<Waker>,
-    /// True if the next thread to enter is to yield first. Threads seldom write it, so it may share a cache line with
-    /// `table` and `wakers`: these have only pointers, which don't change after `make`, to words and slot on the heap.
-    pub(crate) is_to_make_way: AtomicBool,
-    /// The record of parked entering threads, on a cache line of its own.
-    pub(crate) parked: CachePadded<Parked>,
+    /// What entering threads sleep on, on a cache line of its own.
+    pub(crate) entrance: CachePadded<Entrance>,
 }
 
 impl<D: MonitorData> Model for RawBatonDoor<D> {

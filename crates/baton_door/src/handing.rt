@@ -11,7 +11,7 @@ ghost use Rattle.door_frame.specs.Places.{IsWoken, sleeper_at};
 ghost use Rattle.door_frame.specs.Seats.{GoesOut};
 
 use crate::door::RawBatonDoor;
-use crate::leaving::{handed, is_leaving, is_to_help, is_wait};
+use crate::leaving::{is_leaving, is_wait};
 use crate::table_steps::put_and_write;
 use door_frame::guarded::GuardedBox;
 use door_frame::release::Release;
@@ -25,7 +25,8 @@ impl<D: MonitorData> RawBatonDoor<D> {
     /// adds the event `J.event`, which the caller chooses, to the history.
     ///
     /// After the store: if `next` is a place that resumes, wakes that place, and returns a `Woken`, which shows that
-    /// the place was woken. Else calls `help_others`, if `is_to_help` says so, and then returns `None`.
+    /// the place was woken. Else calls `help_others`, if an entering thread may sleep or the caller is to back off, and
+    /// then returns `None`.
     #[inline(always)] // if the compiler can tell that `next` is `Next::Free`, it leaves out the call of `give_to`
     pub(crate) fn give<J: PickedEvent<D>>(
         &self,
@@ -47,17 +48,10 @@ impl<D: MonitorData> RawBatonDoor<D> {
                 Some(self.give_to::<J>(seat, guarded, place, is_leaving(how), resumed))
             }
             Next::Free | Next::Held(_) => {
-                let since_handed = guarded.held.since_handed;
-                put_and_write::<D, usize, J>(
-                    &self.table,
-                    seat,
-                    guarded,
-                    place,
-                    since_handed.wrapping_add(1),
-                    next,
-                );
-                if is_to_help(since_handed, how) {
-                    self.help_others(since_handed, is_wait(how));
+                let backs_off = guarded.held.backs_off && !is_wait(how);
+                put_and_write::<D, usize, J>(&self.table, seat, guarded, place, false, next);
+                if backs_off || self.entrance.may_sleep() {
+                    self.help_others(backs_off);
                 }
                 None
             }
@@ -83,7 +77,7 @@ impl<D: MonitorData> RawBatonDoor<D> {
         ensures woken { result ≡ sleeper_at self.now resumed }
     {
         let (table, next) = (&self.table, Next::For(resumed));
-        put_and_write::<D, usize, J>(table, seat, guarded, place, handed(leaves), next);
+        put_and_write::<D, usize, J>(table, seat, guarded, place, leaves, next);
         self.wakers[resumed].wake(seat)
     }
 }

@@ -4,9 +4,9 @@
 
 pub mod door;
 mod entering;
+mod entrance;
 mod handing;
 mod leaving;
-mod parked;
 pub mod place;
 mod raw_monitor;
 mod rule;

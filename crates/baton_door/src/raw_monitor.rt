@@ -11,7 +11,7 @@ ghost use Rattle.door_frame.specs.Releases.{event_of};
 ghost use Rattle.door_frame.specs.Notifications.{event_of_notification};
 
 use crate::door::{RawBatonDoor, open};
-use crate::parked::Parked;
+use crate::entrance::Entrance;
 use crate::place::{DoorIn, DoorOut};
 use crate::rule::BatonWords;
 use crate::table_steps;
@@ -20,7 +20,6 @@ use door_frame::calls;
 use door_frame::guarded::GuardedBox;
 use door_frame::making::{Parts, closed, deal, vacant};
 use door_frame::notification::Notification;
-use door_frame::polling::{BATON_POLLING, Polling};
 use door_frame::raw_monitor::{Opens, RawMonitor, Runs, Wakes};
 use door_frame::release::Release;
 use door_frame::seat_steps::{DoorSeat, KindsOf};
@@ -29,8 +28,11 @@ use hoare_law::data::MonitorData;
 use std::alloc::Global;
 use std::marker::Brand;
 use std::sync::Wait;
-use std::sync::atomic::{AtomicBool, Ordering};
 use wait_book::steps::Next;
+
+/// The number of spin hints between two polls of the state word, which all places share: a poll takes the word's cache
+/// line from the next thread that changes the word.
+const PAUSE: u32 = 16;
 
 impl<D: MonitorData> RawMonitor<D> for RawBatonDoor<D> {
     ghost id = { λ d. d };
@@ -41,19 +43,10 @@ impl<D: MonitorData> RawMonitor<D> for RawBatonDoor<D> {
 
     ghost is_woken = { IsWoken };
 
-    fn polling(&self) -> Polling {
-        BATON_POLLING
-    }
-
     /// Tries once to enter. Returns `None` if the compare-exchange doesn't find `FREE`.
     #[inline]
     fn try_admit(&self, seat: &mut DoorSeat<D>, place: usize) -> Option<GuardedBox<D>> {
         table_steps::try_admit(&self.table, seat, place)
-    }
-
-    #[inline]
-    fn is_owed(&self, place: usize) -> bool {
-        self.table.shared.peek(DOOR) == owed(place)
     }
 
     /// Takes the monitor for a place that waited or signalled, if it is owed to that place. Returns `None` if the
@@ -106,23 +99,30 @@ impl<D: MonitorData> RawMonitor<D> for RawBatonDoor<D> {
 impl<D: MonitorData> Wakes<D> for RawBatonDoor<D> {
     ghost woken = { λ w. w };
 
+    #[inline]
+    fn is_owed(&self, place: usize) -> bool {
+        self.table.shared.peek(DOOR) == owed(place)
+    }
+
+    #[inline]
+    fn hints_between_polls(&self) -> u32 {
+        PAUSE
+    }
+
     ghost wakes = { λ d next w is. is };
 }
 
 impl<D: MonitorData> Runs<D> for RawBatonDoor<D> {
     ghost use Rattle.std.specs.Prelude.{refl};
 
-    /// Enters. Yields first if a leaving thread asked for it. Then tries once to enter, as `try_enter` does, and keeps
-    /// trying if that fails. The first attempt is made here and not in `enter_later`, which may block: after a call of
-    /// such a function the compiler tests if it returned. If the first attempt succeeds, no such test is made.
+    /// Enters. Tries once to enter, as `try_enter` does, and keeps trying if that fails. The first attempt is made here
+    /// and not in `enter_later`, which may block: after a call of such a function the compiler tests if it returned. If
+    /// the first attempt succeeds, no such test is made.
     #[inline]
     fn enter<R: Wait>(&self, rt: &R, out: DoorOut<D>) -> DoorIn<D>
         requires { IsOut D.rest D.ready (kinds_of D.CONDITIONS D.MESA) self.now out }
         ensures { Entered D.rest D.ready (kinds_of D.CONDITIONS D.MESA) self.now out result }
     {
-        if self.is_to_make_way.load(Ordering::Relaxed) {
-            self.make_way();
-        }
         match calls::try_enter(self, out) {
             Ok(inside) => inside,
             Err(out) => self.enter_later(rt, out),
@@ -138,8 +138,7 @@ impl<D: MonitorData> Runs<D> for RawBatonDoor<D> {
         let RawBatonDoor {
             table,
             wakers,
-            is_to_make_way: _,
-            parked: _,
+            entrance: _,
         } = self;
         closed(table, wakers, outs)
     }
@@ -171,8 +170,7 @@ impl<D: MonitorData> Opens<D> for RawBatonDoor<D> {
         let raw_monitor = RawBatonDoor {
             table,
             wakers,
-            is_to_make_way: AtomicBool::new(false),
-            parked: Parked::new(),
+            entrance: Entrance::new(),
         };
         Ok((raw_monitor, outs))
     }

@@ -5,7 +5,7 @@ use door_frame::status::{Holder, Status};
 use hoare_law::data::MonitorData;
 
 impl<D: MonitorData> RawBatonDoor<D> {
-    /// Returns what the state word says now, and how many entering threads are parked: to find out why a program hangs.
+    /// Returns what the state word says now, and how many entering threads sleep: to find out why a program hangs.
     /// The two are loaded one after the other, not as an atomic snapshot, and other threads may have changed them by
     /// the time that it returns. It needs no place, never blocks, and changes nothing.
     pub fn status(&self) -> Status {
@@ -14,7 +14,7 @@ impl<D: MonitorData> RawBatonDoor<D> {
             HELD => Holder::Somebody,
             owed => Holder::Owed((owed - 2) as usize),
         };
-        let entering = self.parked.count();
+        let entering = self.entrance.count();
         Status { holder, entering }
     }
 }

@@ -17,12 +17,11 @@ ghost use Rattle.door_frame.specs.Notifications.{event_of_notification};
 use crate::door::open;
 use crate::rule::{BatonWords, DoorTable};
 use crate::table_steps;
-use crate::word::{DOOR, FREE, owed};
+use crate::word::FREE;
 use door_frame::guarded::GuardedBox;
 use door_frame::making::{closed_as, deal_by_caller, vacant};
 use door_frame::notification::Notification;
 use door_frame::place::Outside;
-use door_frame::polling::{BATON_POLLING, Polling};
 use door_frame::raw_monitor::RawMonitor;
 use door_frame::release::Release;
 use door_frame::seat_steps::{DoorSeat, PickedEvent};
@@ -143,7 +142,7 @@ impl<D: MonitorData> StepDoor<D> {
         ensures table { seat.new.table_id ≡ seat.old.table_id }
         ensures away { GoesOut place J.event seat.old.me guarded.state seat.new.me }
     {
-        table_steps::put_and_write::<D, Sizes, J>(&self.table, seat, guarded, place, 1, next)
+        table_steps::put_and_write::<D, Sizes, J>(&self.table, seat, guarded, place, false, next)
     }
 }
 
@@ -157,18 +156,9 @@ impl<D: MonitorData> RawMonitor<D> for StepDoor<D> {
     /// `release` returns no evidence of a wake-up, since this door wakes no place.
     ghost is_woken = { λ d next shown. ⊤ };
 
-    fn polling(&self) -> Polling {
-        BATON_POLLING
-    }
-
     #[inline]
     fn try_admit(&self, seat: &mut DoorSeat<D>, place: usize) -> Option<GuardedBox<D>> {
         table_steps::try_admit(&self.table, seat, place)
-    }
-
-    #[inline]
-    fn is_owed(&self, place: usize) -> bool {
-        self.table.shared.peek(DOOR) == owed(place)
     }
 
     #[inline]

@@ -85,7 +85,7 @@ pub(crate) fn try_claim<D: MonitorData, K: DoorKey<D>>(
     None
 }
 
-/// Puts `guarded`, with `since_handed` in it, into the slot, and then stores `word_of_next(next)` in the state word. In
+/// Puts `guarded`, with `backs_off` in it, into the slot, and then stores `word_of_next(next)` in the state word. In
 /// the proofs the store adds the event `J.event`, which the caller chooses, to the history.
 #[inline(always)] // if the compiler knows `next`, it computes the word
 pub(crate) fn put_and_write<D: MonitorData, K: DoorKey<D>, J: PickedEvent<D>>(
@@ -93,7 +93,7 @@ pub(crate) fn put_and_write<D: MonitorData, K: DoorKey<D>, J: PickedEvent<D>>(
     seat: &mut DoorSeat<D>,
     mut guarded: GuardedBox<D>,
     place: usize,
-    since_handed: u32,
+    backs_off: bool,
     next: Next,
 )
     requires table { seat.old.table_id ≡ table.now.shared.table_id }
@@ -104,7 +104,7 @@ pub(crate) fn put_and_write<D: MonitorData, K: DoorKey<D>, J: PickedEvent<D>>(
     ensures away { GoesOut place J.event seat.old.me guarded.state seat.new.me }
     ensures released { HasReleased seat.new.me }
 {
-    guarded.held.since_handed = since_handed;
+    guarded.held.backs_off = backs_off;
     put_guarded(table, seat, guarded);
     table
         .shared

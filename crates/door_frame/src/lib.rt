@@ -7,6 +7,7 @@ pub mod guarded;
 pub mod making;
 pub mod notification;
 pub mod parking;
+pub mod patience;
 pub mod place;
 pub mod polling;
 pub mod raw_monitor;

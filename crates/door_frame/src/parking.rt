@@ -17,29 +17,40 @@ ghost use Rattle.door_frame.specs.Steps.{due};
 ghost use Rattle.door_frame.specs.Seats.{IsEmptyHanded, EntersWith};
 
 use crate::guarded::GuardedBox;
-use crate::polling::pause;
-use crate::raw_monitor::{RawMonitor, Wakes};
+use crate::patience::Patience;
+use crate::polling::{POLLS, pause};
+use crate::raw_monitor::Wakes;
 use crate::seat_steps::DoorSeat;
 use crate::waking::Sleeper;
 use hoare_law::data::MonitorData;
 use std::sync::Wait;
 
-/// Polls until the monitor is owed to `place`, at most `polls` times, `pauses` spin hints apart
-/// (`RawMonitor::polling`).
-fn poll_for_turn<D: MonitorData, T: RawMonitor<D>>(door: &T, place: usize)
+/// Polls until the monitor is owed to `place`, for at most `POLLS` spin hints. Returns true if it is owed.
+fn poll_for_turn<D: MonitorData, T: Wakes<D>>(door: &T, place: usize) -> bool
     requires { place < (T.id door.now).places }
 {
-    let polling = door.polling();
-    for _ in 0..polling.polls {
+    let hints = door.hints_between_polls();
+    for _ in 0..POLLS / hints {
+        pause(hints);
         if door.is_owed(place) {
-            return;
+            return true;
         }
-        pause(polling.pauses);
+    }
+    false
+}
+
+/// Polls until the monitor is owed to `place`, for at most `POLLS` spin hints, unless `patience` leaves that out. If
+/// the monitor is owed before the first poll, this is neither a hit nor a miss.
+fn poll_or_skip<D: MonitorData, T: Wakes<D>>(door: &T, place: usize, patience: &Patience)
+    requires { place < (T.id door.now).places }
+{
+    if !door.is_owed(place) && patience.may_poll() {
+        patience.has_polled(poll_for_turn(door, place));
     }
 }
 
-/// Blocks until the monitor is owed to `place`, enters and takes the guarded box. Polls for a while, then tests and
-/// parks in turn.
+/// Blocks until the monitor is owed to `place`, enters and takes the guarded box. Polls for a while, unless the place
+/// leaves that out, then tests and parks in turn.
 pub fn claim<D: MonitorData, T: Wakes<D>, R: Wait>(
     door: &T,
     rt: &R,
@@ -54,7 +65,7 @@ pub fn claim<D: MonitorData, T: Wakes<D>, R: Wait>(
     ensures table { seat.new.table_id ≡ seat.old.table_id }
     ensures enters_with { EntersWith D.rest D.ready place (due place) seat.old.me result seat.new.me }
 {
-    poll_for_turn(door, place);
+    poll_or_skip(door, place, &sleeper.to_resume);
     for _ in rt.forever() {
         if let Some(guarded) = door.try_claim(seat, place) {
             return guarded;

@@ -1,34 +1,13 @@
-//! How long a place that waits on a condition, or has signalled, polls before it parks.
+//! How long a thread polls before it sleeps.
 //!
-//! A park and its wake-up take some microseconds and a system call each, so a hand-off that arrives while the place
-//! still polls is much cheaper. But a polling place occupies a core, which the thread that it waits for may need.
+//! A sleep and its wake-up take some microseconds and a system call each, so a hand-off that arrives while the thread
+//! still polls is much cheaper. But a thread that polls occupies a core, which the thread that it waits for may need.
 use std::hint;
 
-/// How a place polls whether the monitor is owed to it, before it parks.
-#[derive(Clone, Copy)]
-pub struct Polling {
-    /// The number of polls.
-    pub polls: u32,
-    /// The number of spin hints after each poll.
-    pub pauses: u32,
-}
-
-/// Polling at the baton door, for 15 microseconds in all. A poll takes the state word's cache line from the next thread
-/// that changes the word, so 16 spin hints (70 nanoseconds) come between two polls. With five to ten times as many
-/// polls, a spin hint apart, a hand-off took 1.07 times as long; with 8 hints between two polls a chain of eight
-/// signallers took 1.9 times as long; with a third of the polls buffers between eight threads took 1.2 times as long.
-pub const BATON_POLLING: Polling = Polling {
-    polls: 200,
-    pauses: 16,
-};
-
-/// Polling at the ticket door, for 3 microseconds in all. Each place has a word of its own there, so a poll takes the
-/// cache line only from the thread that resumes the place. Entering threads with the next tickets poll too, so fewer
-/// cores are left. With 3,000 polls a chain of eight signallers took 1.2 times as long.
-pub const TICKET_POLLING: Polling = Polling {
-    polls: 500,
-    pauses: 1,
-};
+/// The number of spin hints for which a thread polls before it sleeps: longer than a wake-up takes, which is some 8
+/// microseconds. With shorter polls one thread that is woken late sends all threads that wait for it to sleep, and each
+/// of these is then late too.
+pub const POLLS: u32 = 2000;
 
 /// Lets the time of `hints` spin hints pass.
 pub fn pause(hints: u32) {

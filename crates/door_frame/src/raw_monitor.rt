@@ -1,5 +1,5 @@
-//! What a door does with its words: admit a place by one attempt, poll whether the monitor is owed to a place, let that
-//! place return, hand the monitor off, and record a notification.
+//! What a door does with its words: admit a place by one attempt, let a place return to which the monitor is owed, hand
+//! the monitor off, and record a notification; and, at a door that wakes its places, how a place polls.
 ghost use Rattle.std.specs.Prelude.{◌≡◌, ◌<◌, ℕ, IfSome, IfNone, IfOk, IfErr, All};
 ghost use Rattle.hoare_law.specs.declared.event.History.{History};
 ghost use Rattle.hoare_law.specs.declared.event.Event.TheVariants as event;
@@ -17,7 +17,6 @@ use crate::guarded::GuardedBox;
 use crate::making::Parts;
 use crate::notification::Notification;
 use crate::place::{Inside, Outside};
-use crate::polling::Polling;
 use crate::release::Release;
 use crate::seat_steps::DoorSeat;
 use hoare_law::data::MonitorData;
@@ -43,10 +42,6 @@ pub trait RawMonitor<D: MonitorData> {
     /// implements `Wakes` too.
     ghost is_woken: { DoorId → Next → Self.Shown → Type 0 };
 
-    /// Returns how often a place polls whether the monitor is owed to it, before it parks. Performance only; not part
-    /// of the contract.
-    fn polling(&self) -> Polling;
-
     /// Admits the place if it may enter at this moment, and takes the guarded box; else the seat is unchanged. Never
     /// blocks.
     fn try_admit(&self, seat: &mut DoorSeat<D>, place: usize) -> Option<GuardedBox<D>>
@@ -56,11 +51,6 @@ pub trait RawMonitor<D: MonitorData> {
         ensures enters_with { IfSome result (λ guarded. EntersWith D.rest D.ready place (λ f. event.Admit place)
             seat.old.me guarded seat.new.me) }
         ensures same { IfNone result (seat.new.me ≡ seat.old.me) };
-
-    /// Polls the place's word once. Returns true if the monitor is owed to the place. The result is not specified: a
-    /// `try_claim` follows.
-    fn is_owed(&self, place: usize) -> bool
-        requires { place < (id self.now).places };
 
     /// Lets the place return if the monitor is owed to it at this moment, and takes the guarded box; else the seat is
     /// unchanged. Never blocks.
@@ -119,6 +109,15 @@ pub trait Wakes<D: MonitorData>: RawMonitor<D> {
 
     /// The sleeper that was woken, if any, as the value that `release` returned shows.
     ghost woken: { Self.Shown → Option TableId };
+
+    /// Polls the place's word once. Returns true if the monitor is owed to the place. The result is not specified: a
+    /// `try_claim` follows.
+    fn is_owed(&self, place: usize) -> bool
+        requires { place < (Self.id self.now).places };
+
+    /// Returns the number of spin hints between two polls of the place's word: more than 1 if all places share it.
+    fn hints_between_polls(&self) -> u32
+        ensures { 0 < result };
 
     /// The sleeper that was woken is that of the place that resumes next.
     ghost wakes: { (d : DoorId) (next : Next) (shown : Self.Shown) → Self.is_woken d next shown

@@ -19,7 +19,7 @@ pub struct Status {
     /// Which place has the monitor.
     pub holder: Holder,
     /// The number of entering threads that were seen: on a ticket door those with a ticket that isn't served yet, on a
-    /// baton door those that are parked.
+    /// baton door those that sleep.
     pub entering: u64,
 }
 

@@ -3,6 +3,7 @@ ghost use Rattle.std.specs.Prelude.{◌≡◌, true, IfOk};
 ghost use Rattle.crossbeam_utils.specs.Token.{parker_view};
 ghost use Rattle.door_frame.specs.Seats.{HasReleased};
 
+use crate::patience::Patience;
 use crate::seat_steps::DoorSeat;
 use crossbeam_utils::rule::{Outcome, Protocol};
 use crossbeam_utils::sync::parker::{Pass, RuledParker, RuledUnparker};
@@ -49,6 +50,10 @@ pub trait Parking {
 #[derive(Drop)]
 pub struct Sleeper {
     parker: RuledParker<bool, Waking>,
+    /// Which polls the place leaves out when it enters.
+    pub to_enter: Patience,
+    /// Which polls the place leaves out when it waits, or returns from a signal.
+    pub to_resume: Patience,
 }
 
 impl Model for Sleeper {
@@ -109,7 +114,12 @@ impl Sleeper {
     {
         let (parker, _) = RuledParker::ruled(alloc)?;
         let unparker = parker.unparker().clone()?;
-        Ok((Sleeper { parker }, Waker { unparker }))
+        let sleeper = Sleeper {
+            parker,
+            to_enter: Patience::new(),
+            to_resume: Patience::new(),
+        };
+        Ok((sleeper, Waker { unparker }))
     }
 
     /// Parks the caller until the place is woken. Returns at once if the place was woken since its last park.

@@ -18,7 +18,6 @@ use crate::words::{NEXT, RUNG, SERVING, SILENT, bell_of, served_as};
 use door_frame::guarded::GuardedBox;
 use door_frame::making::{Parts, closed};
 use door_frame::notification::Notification;
-use door_frame::polling::{Polling, TICKET_POLLING};
 use door_frame::raw_monitor::{Opens, RawMonitor, Runs, Wakes};
 use door_frame::release::Release;
 use door_frame::seat_steps::DoorSeat;
@@ -39,10 +38,6 @@ impl<D: MonitorData> RawMonitor<D> for RawTicketDoor<D> {
 
     ghost is_woken = { IsWoken };
 
-    fn polling(&self) -> Polling {
-        TICKET_POLLING
-    }
-
     /// Shuts the gate if NEXT and SERVING have the same ticket, tries to take that ticket, and opens the gate again.
     /// Returns `None` if a place has the monitor or a ticket, and also if another place tries, or a word changes
     /// between the polls.
@@ -58,11 +53,6 @@ impl<D: MonitorData> RawMonitor<D> for RawTicketDoor<D> {
             return None;
         }
         Some(take_guarded(table, seat))
-    }
-
-    #[inline]
-    fn is_owed(&self, place: usize) -> bool {
-        self.table.shared.peek(bell_of(place)) == RUNG
     }
 
     /// Swaps the bell of `place` to `SILENT`, once. Returns `None` if it wasn't rung.
@@ -118,6 +108,16 @@ impl<D: MonitorData> RawMonitor<D> for RawTicketDoor<D> {
 
 impl<D: MonitorData> Wakes<D> for RawTicketDoor<D> {
     ghost woken = { λ w. w };
+
+    #[inline]
+    fn is_owed(&self, place: usize) -> bool {
+        self.table.shared.peek(bell_of(place)) == RUNG
+    }
+
+    #[inline]
+    fn hints_between_polls(&self) -> u32 {
+        1
+    }
 
     ghost wakes = { λ d next w is. is };
 }

@@ -1,5 +1,5 @@
-//! Each door on one thread: what `make` refuses, a place's calls at the least and the most places, and what the words of
-//! a door say.
+//! Each door on one thread: what `make` refuses, a place's calls at the least and the most places, what the words of a
+//! door say, and which polls a place leaves out.
 ghost use Rattle.std.specs.Prelude.{◌≡◌, vec_len, All};
 ghost use Rattle.test_support.specs.Numbered.{IsNumbered};
 
@@ -8,6 +8,7 @@ use crate::tests::row::{baton, ticket};
 use any_door::{AnyDoor, DoorKind};
 use baton_door::door::Door;
 use door_frame::calls::begin_wait;
+use door_frame::patience::Patience;
 use door_frame::place::Outside;
 use door_frame::status::{Holder, Status};
 use hoare_law::monitor::Monitor;
@@ -153,4 +154,29 @@ fn a_status_of_each_door(host: HostRuntime) {
         };
         reads_as(rt, alloc, &status, *wanted);
     }
+}
+
+// Returns how many polls a place leaves out before its next one.
+fn skips(patience: &Patience) -> u16 {
+    for skips in 0..u16::MAX {
+        if patience.may_poll() {
+            return skips;
+        }
+    }
+    u16::MAX
+}
+
+#[test]
+fn polls_in_vain_are_left_out(host: HostRuntime) {
+    let patience = Patience::new();
+    for wanted in [0, 1, 3, 7, 15, 31, 63, 127, 255, 511, 1023, 1023] {
+        expect_same(&host, skips(&patience), wanted);
+        patience.has_polled(false);
+    }
+    for wanted in [1023, 0, 0] {
+        expect_same(&host, skips(&patience), wanted);
+        patience.has_polled(true);
+    }
+    patience.has_polled(false);
+    expect_same(&host, skips(&patience), 1);
 }

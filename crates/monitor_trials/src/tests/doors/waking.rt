@@ -1,5 +1,5 @@
 //! Tested only, since no contract says so: that a resumed waiter wakes, that it slept until then, as does a signaller
-//! until it is back, and that an entering thread that parks enters. On threads, on each door.
+//! until it is back; and that the thread that leaves wakes the entering threads that sleep. On threads, on each door.
 ghost use Rattle.std.specs.Prelude.{◌≡◌};
 
 use crate::tests::awaited::{await_sign, watch};
@@ -11,7 +11,7 @@ use std::process::Abort;
 use std::rt::Clock;
 use std::sync::Wait;
 use std::sync::atomic::{AtomicBool, AtomicUsize, Ordering};
-use std::time::{CpuClock, Duration};
+use std::time::{CpuClock, Duration, Instant};
 use std::{hint, thread};
 use test_support::tally::{Tally, add_one, write_digit};
 
@@ -81,25 +81,123 @@ fn who_waits_and_who_signals_sleep(host: HostRuntime) {
     tally_on_both(&host, host.alloc(), &WaitsLong(&host), 12, &[0, 0]);
 }
 
-/// The number of times that place 1 enters while place 0 is inside. The row's limit of 25 seconds allows an eighth of a
-/// second for each.
+/// CPU time in microseconds: an entering thread that sleeps until it is woken uses less than this for its call. One
+/// that sleeps by a timer of a tenth of a millisecond uses more: it wakes some 2,000 times in `ASLEEP` milliseconds.
+const ENTERING: u128 = 2000;
+
+/// How long after the leave the entering thread is inside at most, in milliseconds.
+const LATE: u128 = 1000;
+
+// Returns the CPU time that this thread has used, in microseconds. Fails the test if there is no clock.
+fn spent_micros<R: Abort, C: CpuClock>(rt: &R, clock: &C) -> u128 {
+    let Ok(time) = clock.thread_cpu_time() else {
+        panic!(rt; "no clock")
+    };
+    time.as_micros()
+}
+
+// Enters. Returns the place, and 0 if it used less than `ENTERING` microseconds of CPU time for the call, and the call
+// took less than `ASLEEP` and `LATE` milliseconds. Otherwise returns 1.
+fn sleeps_until_in<R: Wait + Abort + Clock, C: CpuClock, M: Monitor<Tally>>(
+    rt: &R,
+    clock: &C,
+    m: &M,
+    out: M::Out,
+) -> (M::In, u64)
+    requires { M.is_of m.now out }
+    ensures of { M.is_of_in m.now result.0 }
+    ensures place { M.place_in result.0 ≡ M.place out }
+{
+    let before = spent_micros(rt, clock);
+    let Ok(start) = Instant::now(rt) else {
+        panic!(rt; "no clock")
+    };
+    let inside = m.enter(rt, out);
+    let used = spent_micros(rt, clock).saturating_sub(before);
+    let Ok(took) = start.elapsed(rt) else {
+        panic!(rt; "no clock")
+    };
+    let is_in_time = took.as_millis() < ASLEEP as u128 + LATE;
+    (inside, u64::from(used >= ENTERING || !is_in_time))
+}
+
+/// Place 0 enters, gives a sign, stays inside for `ASLEEP` milliseconds and writes 1. Place 1 enters after the sign,
+/// and writes 2. It returns 0 if it slept by this clock until it was woken, and was inside in time.
+#[derive(Drop)]
+struct EntersLate<'a, C: CpuClock + Sync> {
+    clock: &'a C,
+    is_inside: AtomicBool,
+}
+
+impl<C: CpuClock + Sync> Row<Tally> for EntersLate<'_, C> {
+    fn act<R: Wait + Abort + Clock, M: Monitor<Tally, Out = DoorOut<Tally>>>(
+        &self,
+        rt: &R,
+        m: &M,
+        out: DoorOut<Tally>,
+        place: usize,
+    ) -> (DoorOut<Tally>, u64)
+        requires { M.is_of m.now out }
+        ensures of { M.is_of m.now result.0 }
+        ensures place { M.place result.0 ≡ M.place out }
+    {
+        if place > 0 {
+            await_sign(rt, &self.is_inside);
+            let (inside, bad) = sleeps_until_in(rt, self.clock, m, out);
+            return (m.leave(rt, write_digit(m, inside, 2)), bad);
+        }
+        let inside = m.enter(rt, out);
+        self.is_inside.store(true, Ordering::SeqCst);
+        pause(rt, ASLEEP);
+        (m.leave(rt, write_digit(m, inside, 1)), 0)
+    }
+}
+
+#[test]
+fn who_enters_sleeps_until_the_leave(host: HostRuntime) {
+    let row = EntersLate {
+        clock: &host,
+        is_inside: AtomicBool::new(false),
+    };
+    tally_on(&host, host.alloc(), DoorKind::Baton, &row, 12, &[0, 0]);
+}
+
+/// The number of times that places 1 and 2 enter while place 0 is inside. The row's limit of 25 seconds allows an
+/// eighth of a second for each. A thread that isn't woken would sleep for ever.
 const ROUNDS: u64 = 200;
 
 /// How long place 0 stays inside, in milliseconds. An entering thread polls for less than a tenth of a millisecond, and
-/// then parks for some 0.15 milliseconds at a time.
+/// then sleeps.
 const STAY: u64 = 3;
 
-/// Place 0 stays inside for the length of many parks, and place 1 enters meanwhile, `ROUNDS` times. They give each
-/// other signs: that place 0 is inside, and that place 1 was inside.
+/// The signs that place 0 and an entering place give each other: that place 0 is inside, and that the other was inside.
 #[derive(Drop)]
-struct StaysOrEnters {
+struct Signs {
     is_inside: AtomicBool,
     was_inside: AtomicBool,
 }
 
+impl Signs {
+    fn new() -> Signs {
+        Signs {
+            is_inside: AtomicBool::new(false),
+            was_inside: AtomicBool::new(false),
+        }
+    }
+}
+
+/// Place 0 stays inside until the two other places sleep, leaves, and at once enters and stays once more, `ROUNDS`
+/// times. On the baton door the place that the first leave wakes comes too late, mostly, and sleeps again. The second
+/// leave wakes a place, whose leave wakes the other.
+#[derive(Drop)]
+struct StaysOrEnters {
+    second: Signs,
+    third: Signs,
+}
+
 impl StaysOrEnters {
-    // Enters and gives a sign, stays inside, adds one and leaves. A baton door wakes no thread then; a ticket door wakes
-    // the thread with the next ticket, if it is parked. Returns once the other place was inside.
+    // Enters and gives the signs, stays inside, adds one and leaves; then does so again without the signs. Returns once
+    // the other places were inside.
     fn stays<R: Wait + Abort + Clock, M: Monitor<Tally>>(
         &self,
         rt: &R,
@@ -111,27 +209,32 @@ impl StaysOrEnters {
         ensures place { M.place result ≡ M.place out }
     {
         let inside = m.enter(rt, out);
-        self.is_inside.store(true, Ordering::SeqCst);
+        self.second.is_inside.store(true, Ordering::SeqCst);
+        self.third.is_inside.store(true, Ordering::SeqCst);
+        pause(rt, STAY);
+        let inside = m.enter(rt, m.leave(rt, add_one(m, inside)));
         pause(rt, STAY);
         let out = m.leave(rt, add_one(m, inside));
-        await_sign(rt, &self.was_inside);
+        await_sign(rt, &self.second.was_inside);
+        await_sign(rt, &self.third.was_inside);
         out
     }
 
-    // Enters after the sign, while the other place is inside, adds one, leaves, and gives a sign.
+    // Enters after the sign, while place 0 is inside, adds one, leaves, and gives a sign.
     fn enters<R: Wait + Abort + Clock, M: Monitor<Tally>>(
         &self,
         rt: &R,
         m: &M,
         out: M::Out,
+        signs: &Signs,
     ) -> M::Out
         requires { M.is_of m.now out }
         ensures of { M.is_of m.now result }
         ensures place { M.place result ≡ M.place out }
     {
-        await_sign(rt, &self.is_inside);
+        await_sign(rt, &signs.is_inside);
         let out = add_on(rt, m, out, 1);
-        self.was_inside.store(true, Ordering::SeqCst);
+        signs.was_inside.store(true, Ordering::SeqCst);
         out
     }
 
@@ -149,10 +252,10 @@ impl StaysOrEnters {
     {
         let mut out = out;
         for _ in 0..ROUNDS {
-            out = if place == 0 {
-                self.stays(rt, m, out)
-            } else {
-                self.enters(rt, m, out)
+            out = match place {
+                0 => self.stays(rt, m, out),
+                1 => self.enters(rt, m, out, &self.second),
+                _ => self.enters(rt, m, out, &self.third),
             };
         }
         out
@@ -178,10 +281,10 @@ impl Row<Tally> for StaysOrEnters {
 #[test]
 fn a_parked_thread_enters(host: HostRuntime) {
     let row = StaysOrEnters {
-        is_inside: AtomicBool::new(false),
-        was_inside: AtomicBool::new(false),
+        second: Signs::new(),
+        third: Signs::new(),
     };
-    tally_on_both(&host, host.alloc(), &row, 2 * ROUNDS, &[0, 0]);
+    tally_on_both(&host, host.alloc(), &row, 4 * ROUNDS, &[0, 0, 0]);
 }
 
 /// The number of places that visit. As many other places keep a processor busy each.

@@ -1,6 +1,6 @@
 use Rattle.std.proofs.Common.{arith, ◌<◌, sym, subst}
 use Rattle.door_frame.specs.Places.{DoorId}
-use Rattle.baton_door.proofs.raw_monitor.RawBatonDoorRawMonitor.is_owed.Goals as goal
+use Rattle.baton_door.proofs.raw_monitor.RawBatonDoorWakes.is_owed.Goals as goal
 
 pub owed-requires : goal.owed-requires
 owed-requires g c =

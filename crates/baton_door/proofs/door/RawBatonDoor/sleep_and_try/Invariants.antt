@@ -1,5 +1,5 @@
 use Rattle.std.proofs.Common.{◌≡◌}
-use Rattle.baton_door.proofs.door.RawBatonDoor.keep_trying.Given as goal
+use Rattle.baton_door.proofs.door.RawBatonDoor.sleep_and_try.Given as goal
 
 abbrev pub invariant-loop : goal.invariant-loop
 invariant-loop g l =

@@ -1,6 +1,6 @@
 use Rattle.std.proofs.Common.{◌<◌, sym, subst, arith}
 use Rattle.ticket_door.specs.Asked.{TicketDoorId}
-use Rattle.ticket_door.proofs.raw_monitor.RawTicketDoorRawMonitor.is_owed.Goals as goal
+use Rattle.ticket_door.proofs.raw_monitor.RawTicketDoorWakes.is_owed.Goals as goal
 
 pub bell_of-requires : goal.bell_of-requires
 bell_of-requires g c =

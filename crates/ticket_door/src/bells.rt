@@ -1,6 +1,6 @@
 //! Releasing the monitor. The releasing thread serves the next ticket; or it rings the bell of the place that resumes,
-//! and wakes that place. `door_frame::parking` has the reason why no wake-up is lost: the word of each place is its
-//! bell.
+//! and wakes that place. `door_frame::parking` has the reason why no wake-up of a place is lost: the word of each place
+//! is its bell. `waiting_room` has it for the thread whose ticket is served.
 ghost use Rattle.std.specs.Prelude.{◌≡◌, ◌<◌};
 ghost use Rattle.wait_book.specs.Contents.{IsPlaceBelow};
 ghost use Rattle.wait_book.specs.declared.steps.Next.TheVariants.{For, Free};
@@ -48,8 +48,8 @@ impl<D: MonitorData> RawTicketDoor<D> {
         }
     }
 
-    /// Puts the guarded box back if no place resumes: the next ticket is served, and its thread is woken if it is
-    /// parked.
+    /// Puts the guarded box back if no place resumes: the next ticket is served, and its thread is woken if it
+    /// sleeps.
     #[inline(always)] // as `give` is, which calls it
     fn open<J: PickedEvent<D>>(&self, seat: &mut DoorSeat<D>, guarded: GuardedBox<D>, place: usize)
         requires table { seat.old.table_id ≡ self.now.door.table }
@@ -58,8 +58,8 @@ impl<D: MonitorData> RawTicketDoor<D> {
         ensures away { GoesOut place J.event seat.old.me guarded.state seat.new.me }
     {
         put_guarded(&self.table, seat, guarded);
-        self.table.shared.fetch_add::<Give<J>>(seat, SERVING, TURN);
-        self.wake_next();
+        let ended = self.table.shared.fetch_add::<Give<J>>(seat, SERVING, TURN);
+        self.wake_next(ended.wrapping_add(TURN));
     }
 
     /// Puts the guarded box back for the place `resumed`, rings that place's bell, and wakes it.

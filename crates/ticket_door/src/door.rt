@@ -1,7 +1,7 @@
 //! The ticket door for running threads, and its raw monitor.
 
-use crate::parked::Parked;
 use crate::rule::TicketTable;
+use crate::waiting_room::WaitingRoom;
 use crossbeam_utils::CachePadded;
 use door_frame::running::RunningMonitor;
 use door_frame::waking::Waker;
@@ -29,13 +29,12 @@ pub type TicketDoor<D> = RunningMonitor<RawTicketDoor<D>>;
 #[derive(Drop)]
 pub struct RawTicketDoor<D: MonitorData> {
     /// The words and the slot. The crate's README has a table of what each word says, and which thread changes it to
-    /// what. Each of these words has a cache line of its own. An entering thread parks on the word next to a bell,
-    /// which stays 0.
+    /// what. Each of these words has a cache line of its own.
     pub(crate) table: TicketTable<D>,
     /// What wakes each place, in the order of the places.
     pub(crate) wakers: Vec<Waker>,
-    /// The entering threads that are parked.
-    pub(crate) parked: CachePadded<Parked>,
+    /// Where entering threads sleep, on cache lines of its own.
+    pub(crate) waiting_room: CachePadded<WaitingRoom>,
 }
 
 impl<D: MonitorData> Model for RawTicketDoor<D> {

@@ -11,9 +11,9 @@ ghost use Rattle.door_frame.specs.Places.{places_from};
 ghost use Rattle.ticket_door.specs.Rule.{Initial};
 
 use crate::door::{RawTicketDoor, TicketDoor};
-use crate::parked::Parked;
 use crate::place::TicketOut;
 use crate::rule::{Sizes, TicketTable, TicketWords};
+use crate::waiting_room::WaitingRoom;
 use crate::words::{NEXT, SERVING, served_as, words_for};
 use door_frame::guarded::GuardedBox;
 use door_frame::making::{Parts, deal, parts_for, vacant};
@@ -87,11 +87,11 @@ pub(crate) fn open_at<D: MonitorData>(
     )?;
     open(&table, &mut seat, guarded);
     let outs = deal(&table, seat, sleepers, outs, places);
-    let parked = Parked::new();
+    let waiting_room = WaitingRoom::new();
     let raw_monitor = RawTicketDoor {
         table,
         wakers,
-        parked,
+        waiting_room,
     };
     Ok((raw_monitor, outs))
 }

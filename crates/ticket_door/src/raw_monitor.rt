@@ -40,7 +40,8 @@ impl<D: MonitorData> RawMonitor<D> for RawTicketDoor<D> {
 
     /// Shuts the gate if NEXT and SERVING have the same ticket, tries to take that ticket, and opens the gate again.
     /// Returns `None` if a place has the monitor or a ticket, and also if another place tries, or a word changes
-    /// between the polls.
+    /// between the polls. If the place isn't let in, it wakes the thread whose ticket is served, which may have gone to
+    /// sleep while the gate was shut.
     fn try_admit(&self, seat: &mut DoorSeat<D>, place: usize) -> Option<GuardedBox<D>> {
         let table = &self.table;
         let ticket = table.shared.peek(NEXT);
@@ -50,6 +51,7 @@ impl<D: MonitorData> RawMonitor<D> for RawTicketDoor<D> {
         let let_in = self.try_in(seat, place, ticket);
         self.reopen(seat);
         if !let_in {
+            self.wake_served();
             return None;
         }
         Some(take_guarded(table, seat))
@@ -143,7 +145,7 @@ impl<D: MonitorData> Runs<D> for RawTicketDoor<D> {
         let RawTicketDoor {
             table,
             wakers,
-            parked: _,
+            waiting_room: _,
         } = self;
         closed(table, wakers, outs)
     }

@@ -56,7 +56,7 @@ impl<D: MonitorData> RawTicketDoor<D> {
         self.table.shared.load::<PollTicket<J>>(seat, SERVING) == served_as(ticket)
     }
 
-    /// Polls until `ticket` is served: the place is then admitted. Yields or parks between polls.
+    /// Polls until `ticket` is served: the place is then admitted. Sleeps between polls.
     #[inline(never)]
     fn keep_polling<J: Counting, R: Wait>(
         &self,

@@ -50,21 +50,3 @@ pub(crate) fn words_for(places: usize) -> usize
 {
     BELLS + LINE * places
 }
-
-/// Returns the mark of `turn` in the set of turns whose threads are parked. No two turns that are waited for have the
-/// same mark: a door has at most 64 places.
-#[inline]
-pub(crate) fn mark_of(turn: u64) -> u64 {
-    1 << (turn / TURN % 64)
-}
-
-/// Returns the index of the word that the thread with `turn` parks on: the word next to a bell, which stays 0. No two
-/// turns that are waited for have the same word, unless the numbers wrap; then a wake-up may reach the other thread.
-#[inline]
-pub(crate) fn parking_word_of(turn: u64, places: usize) -> usize
-    requires some { 0 < places }
-    requires most { places ≤ 64 }
-    ensures { result < bell_at places }
-{
-    BELLS + LINE * (turn / TURN % places as u64) as usize + 1
-}

@@ -7,8 +7,8 @@ use Rattle.ticket_door.proofs.Serving.{gives_open_at}
 use Rattle.ticket_door.proofs.door.RawTicketDoor.open.Goals as goal
 use Rattle.hoare_law.specs.Sizes.{kinds_of}
 
-pub fetch_add-requires : goal.fetch_add-requires
-fetch_add-requires g c =
+pub fetch_add-ended-requires : goal.fetch_add-ended-requires
+fetch_add-ended-requires g c =
     let e = c.requires.event in
     let D = g.D.MonitorData in
     let t = c.self.inside.table.shared in
@@ -23,5 +23,5 @@ fetch_add-requires g c =
 
 pub returns-clause-away : goal.returns-clause-away
 returns-clause-away g c = λ f is.
-    c.fetch_add.ensures.2 c.args.place f c.args.guarded
+    c.fetch_add-ended.ensures.2 c.args.place f c.args.guarded
     (c.put_guarded.ensures.in_slot ∙ laid_down c.args.guarded refl is)

@@ -1,0 +1,166 @@
+//! How an entering thread waits until its ticket is served, and what wakes it.
+//!
+//! A thread whose turn is near polls for a while, and then sleeps. All others sleep at once. No sleep has a time limit.
+//! Each ticket that is waited for has a word of its own: `ASLEEP` if its thread may sleep, else `AWAKE`. No contract
+//! depends on these words.
+//!
+//! - T, the thread of a ticket, adds itself to a count of sleepers, writes `ASLEEP`, and reads SERVING once more. It
+//!   sleeps only if SERVING isn't its turn, and only while its word is `ASLEEP`: to test the word and to fall asleep is
+//!   one step. When it doesn't sleep any more, T writes `AWAKE` and takes itself from the count.
+//! - A thread that has changed SERVING to T's turn then reads T's word. If it is `ASLEEP`, the thread swaps `AWAKE` in,
+//!   and if that took `ASLEEP` out, wakes T. Two threads change SERVING so. One releases the monitor to T; it reads the
+//!   count first, and no word if that is 0. The other opens the gate again, and wasn't let in: while the gate was shut,
+//!   T didn't enter, and may have gone to sleep. (A place that was let in has the ticket that is served.)
+//!
+//! Why no wake-up is lost. All these operations are sequentially consistent, so they have one order. T sleeps only if
+//! it read SERVING before the change that makes it T's turn. Then it counted itself and wrote `ASLEEP` before the
+//! change. So the thread that made the change finds the count above 0, and finds `ASLEEP`, unless another thread has
+//! swapped `AWAKE` in since. One of the two swaps it in. If T hasn't fallen asleep by then, it doesn't; if it has, that
+//! thread wakes it. T reads SERVING again; if the gate is shut once more, the same holds for the place that opens it.
+//!
+//! A thread that serves a ticket also wakes the thread of the ticket `AHEAD` turns later, if it sleeps, so that it is
+//! awake when it is served: that wake-up lasts while others visit. Nothing depends on it. If its turn hasn't come when
+//! it has polled, the thread sleeps again, and is woken when it is served.
+use crate::door::RawTicketDoor;
+use crate::words::{SERVING, SHUT, TURN};
+use crossbeam_utils::CachePadded;
+use hoare_law::data::MonitorData;
+use std::sync::Wait;
+use std::sync::atomic::{AtomicU64, Ordering};
+use std::{array, hint};
+
+const POLLS: u32 = 2000; // door_frame's
+
+/// The number of turns before its own at which a thread begins to poll, and at which it is woken if it sleeps. As many
+/// threads may poll at once, beside the thread inside.
+const AHEAD: u64 = 3;
+
+/// The number of words. The tickets that are waited for are at most 64 in a row, one for each place, so no two of them
+/// have the same word. That holds also if their numbers wrap, since 64 divides 2^63, the number of turns.
+const WORDS: usize = 64;
+
+/// The word of a ticket whose thread doesn't sleep, or was woken; or that no thread has.
+const AWAKE: u64 = 0;
+
+/// The word of a ticket whose thread may sleep.
+const ASLEEP: u64 = 1;
+
+/// The words of the tickets that are waited for. Not part of any contract.
+#[derive(Drop)]
+pub(crate) struct WaitingRoom {
+    /// The number of threads that sleep, are about to sleep, or were woken. A thread that releases the monitor reads
+    /// only this if it is 0.
+    sleepers: AtomicU64,
+    /// The word of a ticket is at its number modulo `WORDS`.
+    words: [AtomicU64; WORDS],
+}
+
+impl WaitingRoom {
+    /// Creates the words, on cache lines of their own.
+    pub(crate) fn new() -> CachePadded<WaitingRoom> {
+        CachePadded::new(WaitingRoom {
+            sleepers: AtomicU64::new(0),
+            words: array::from_fn(|_| AtomicU64::new(AWAKE)),
+        })
+    }
+
+    /// Returns the word of `turn`. The gate may be shut.
+    fn word(&self, turn: u64) -> &AtomicU64 {
+        &self.words[(turn / TURN % WORDS as u64) as usize]
+    }
+
+    /// Says that the thread with `turn`, which is the caller, may sleep. The caller is to read SERVING before it
+    /// sleeps, and to call `depart` then.
+    fn announce(&self, turn: u64) {
+        self.sleepers.fetch_add(1, Ordering::SeqCst);
+        self.word(turn).store(ASLEEP, Ordering::SeqCst);
+    }
+
+    /// Says that the thread with `turn`, which is the caller, doesn't sleep any more.
+    fn depart(&self, turn: u64) {
+        self.word(turn).store(AWAKE, Ordering::SeqCst);
+        self.sleepers.fetch_sub(1, Ordering::SeqCst);
+    }
+
+    /// Returns true if no thread may sleep.
+    #[inline]
+    fn is_empty(&self) -> bool {
+        self.sleepers.load(Ordering::SeqCst) == 0
+    }
+
+    /// Sleeps until the thread with `turn`, which is the caller, is woken, unless it was since `announce`. May return
+    /// early.
+    fn sleep<R: Wait>(&self, rt: &R, turn: u64) {
+        self.word(turn).park(rt, ASLEEP as u32);
+    }
+
+    /// Wakes the thread with `turn`, if it may sleep.
+    fn wake(&self, turn: u64) {
+        let word = self.word(turn);
+        if word.load(Ordering::SeqCst) == ASLEEP && word.swap(AWAKE, Ordering::SeqCst) == ASLEEP {
+            word.wake_one();
+        }
+    }
+}
+
+/// Returns the turn `AHEAD` turns after `turn`.
+fn later(turn: u64) -> u64 {
+    turn.wrapping_add(AHEAD * TURN)
+}
+
+impl<D: MonitorData> RawTicketDoor<D> {
+    /// Polls for a while whether `turn` has come, if it is near; then sleeps. May return before the turn has come.
+    pub(crate) fn wait_for<R: Wait>(&self, rt: &R, turn: u64) {
+        if self.turns_ahead(turn) <= AHEAD && self.poll_for(turn) {
+            return;
+        }
+        self.waiting_room.announce(turn);
+        if self.table.shared.peek(SERVING) != turn {
+            self.waiting_room.sleep(rt, turn);
+        }
+        self.waiting_room.depart(turn);
+    }
+
+    /// Polls SERVING, for longer than the wake-ups of `AHEAD` threads take together. Returns true if it reached `turn`.
+    ///
+    /// If the threads that are next polled for less, one late thread would send all after it to sleep. Each would then
+    /// be woken after the one before it, be late, and send those after it to sleep: this would never end. A thread that
+    /// left out its polls after polls in vain would be late in the same way, so none does.
+    fn poll_for(&self, turn: u64) -> bool {
+        for _ in 0..AHEAD * u64::from(POLLS) {
+            if self.table.shared.peek(SERVING) == turn {
+                return true;
+            }
+            hint::spin_loop();
+        }
+        false
+    }
+
+    /// Returns the number of turns before `turn`; 0 if it is served, also while the gate is shut.
+    fn turns_ahead(&self, turn: u64) -> u64 {
+        let serving = self.table.shared.peek(SERVING);
+        turn.wrapping_add(SHUT).wrapping_sub(serving) / TURN
+    }
+
+    /// Wakes the thread whose ticket is served now, which is `turn`, and the one whose turn comes `AHEAD` turns later,
+    /// if they may sleep.
+    #[inline]
+    pub(crate) fn wake_next(&self, turn: u64) {
+        if !self.waiting_room.is_empty() {
+            self.wake_both(turn);
+        }
+    }
+
+    /// Wakes the threads with `turn` and with the turn `AHEAD` turns later, if they may sleep.
+    #[inline(never)] // apart, so that a plain leave stays small
+    fn wake_both(&self, turn: u64) {
+        self.waiting_room.wake(turn);
+        self.waiting_room.wake(later(turn));
+    }
+
+    /// Wakes the thread whose ticket is served now, if it may sleep. The caller has opened the gate.
+    pub(crate) fn wake_served(&self) {
+        let turn = self.table.shared.peek(SERVING);
+        self.waiting_room.wake(turn);
+    }
+}

@@ -168,6 +168,31 @@ fn a_lost_wake_up_of_an_entering_thread_hangs() {
 }
 
 #[test]
+fn threads_that_sleep_at_the_entrance_wake_each_other() {
+    const SLEEPERS: usize = 5;
+    let asleep = Arc::new(AtomicU32::new(0));
+    let mut places = monitor_of(SLEEPERS + 1, || Sleeper { asleep: asleep.clone(), wakes: true, ..Sleeper::default() });
+    let mut here = places.pop().unwrap();
+    for _ in 0..20 {
+        asleep.store(0, SeqCst);
+        let inside = here.enter().unwrap();
+        let (tells, is_told) = mpsc::channel();
+        for mut there in places.drain(..) {
+            let tells = tells.clone();
+            thread::spawn(move || {
+                drop(there.enter().unwrap());
+                let _ = tells.send(there);
+            });
+        }
+        while (asleep.load(SeqCst) as usize) < SLEEPERS {
+            thread::yield_now();
+        }
+        drop(inside); // the one leave that wakes a thread from here
+        places.extend((0..SLEEPERS).map(|_| is_told.recv_timeout(LATE).expect("a thread sleeps for ever")));
+    }
+}
+
+#[test]
 fn a_panic_inside_poisons_if_the_port_says_so() {
     let (monitor, mut places) =
         Monitor::<u32, When, NoConditions, Spin>::with_port(0, 2, Checks::default(), || Spin).unwrap();

@@ -154,10 +154,12 @@ static void texts(void) {
 }
 
 static void sleeps_a_little(void) { nanosleep(&(struct timespec){0, 20000000}, NULL); }
-/* Returns once another thread sleeps, or is about to. */
+/* Returns once another thread sleeps, or is about to; it doesn't poll by sleeps that end at once. */
 static void until_asleep(void) {
+    bool polls = !strcmp(COUNTED, "zaulinte_port_poll.h"); /* there each sleep is a poll */
     while (!port_sleeps) sched_yield();
     sleeps_a_little();
+    IS(port_sleeps <= MOST_SLEEPS || polls, true);
 }
 /* each act that leaves the monitor free wakes a thread that waits to enter */
 enum { LEAVES, SIGNALS_NOBODY, WAITS, ACTS };
@@ -199,6 +201,22 @@ static void wakes_each(void) {
     for (int k = 0; k < SLEEPERS; k++) pthread_join(ids[k], NULL);
     IS(zaulinte_free(&m), 0);
 }
+/* each thread enters and leaves once a round: if a wake-up is lost, no later leave makes up for it */
+enum { ROUNDS = 300 };
+static pthread_barrier_t start;
+static void *meets(void *place) {
+    for (int n = 0; n < ROUNDS; n++) pthread_barrier_wait(&start), visits(place);
+    return NULL;
+}
+static void meet(unsigned threads) {
+    pthread_t ids[SLEEPERS];
+    IS(zaulinte_make(&m, threads, 1, 0), 0);
+    pthread_barrier_init(&start, NULL, threads);
+    for (uintptr_t k = 0; k < threads; k++) pthread_create(&ids[k], NULL, meets, (void *)k);
+    for (unsigned k = 0; k < threads; k++) pthread_join(ids[k], NULL);
+    pthread_barrier_destroy(&start);
+    IS(zaulinte_free(&m), 0);
+}
 /* a place that polled in vain before it slept leaves out its next 1, 3, 7 polls; once a poll succeeded it leaves out
  * none */
 static _Atomic unsigned hints;
@@ -235,14 +253,12 @@ static void *waits_twice(void *unused) {
     return unused;
 }
 static void sleeps_once_a_wait(void) {
-    bool polls = !strcmp(COUNTED, "zaulinte_port_poll.h"); /* there each sleep is a poll */
     pthread_t id;
     IS(zaulinte_make(&m, PLACES, 1, 0), 0);
     port_sleeps = 0;
     pthread_create(&id, NULL, waits_twice, NULL);
     for (int n = 0; n < 2; n++) {
         until_asleep();
-        IS(port_sleeps <= MOST_SLEEPS || polls, true);
         IS(zaulinte_free(&m), ZAULINTE_IN_USE);
         port_sleeps = 0;
         IS(zaulinte_enter(&m, OTHER), 0);
@@ -313,8 +329,10 @@ int main(void) {
     memory();
     texts();
     for (int act = 0; act < ACTS; act++) wakes_entering(act);
-    for (int n = 0; n < 20; n++) wakes_each();
-    if (ZAULINTE_POLLS > 0 && strcmp(COUNTED, "zaulinte_port_poll.h")) leaves_out_polls(); /* there a sleep is a poll */
+    for (int n = 0; n < 10; n++) wakes_each();
+    meet(2), meet(SLEEPERS);
+    bool may_poll = ZAULINTE_POLLS > 0, sleeps = strcmp(COUNTED, "zaulinte_port_poll.h");
+    if (may_poll && sleeps) leaves_out_polls();
     sleeps_once_a_wait();
     for (int n = 0; n < 200; n++) deleted_while_left();
     cancelled(false);

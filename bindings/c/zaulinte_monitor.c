@@ -1,13 +1,12 @@
 /* A running monitor on the proved door: which thread sleeps, and which thread is woken. NOT PROVED, tested.
- * zaulinte_port.h argues why no wake-up is lost. */
+ * docs/WAKING.md argues why no wake-up is lost. */
 #include "zaulinte_monitor.h"
 #define ZAULINTE_PORT_CODE
 #include "zaulinte_port.h"
 
 const char ZAULINTE_BUILD = 0;
 /* The word of a place's bell: AWAKE, ASLEEP, or rung. It is rung with RUNG by a thread that waits or signals, and with
- * LEFT by a thread that left the monitor. The word of the entrance: ASLEEP if an entering thread may sleep there, else
- * AWAKE. */
+ * LEFT by a thread that left the monitor. The word of the entrance: ASLEEP or AWAKE. */
 enum { AWAKE, ASLEEP, RUNG, LEFT, NOBODY = ZAULINTE_DOOR_NOBODY };
 static zaulinte_door_place *at(zaulinte_monitor *m, uint32_t place) { return &m->place[place].handle; }
 #include "zaulinte_checks.h"
@@ -52,20 +51,43 @@ static bool enters(zaulinte_monitor *m, uint32_t place) {
     visit_begins(m);
     return true;
 }
+static bool is_rung(zaulinte_bell *b) { return atomic_load(&b->word) >= RUNG; }
+/* Polls until the place has entered, after pauses of 1, 2, 4 .. hints, or until it is rung, after each hint. Returns
+ * true if so. A place that polled in vain leaves out its next 1, 3, 7 .. at most MOST polls: if the thread for which it
+ * waits has no processor, or sleeps, polls only take time. */
+enum { TO_ENTER, TO_RESUME, MOST = 1023 };
+static bool polls(zaulinte_monitor *m, uint32_t place, int to) {
+    zaulinte_patience *p = &m->place[place].patience[to];
+    bool is_hit = false;
+    if (ZAULINTE_POLLS == 0) return false;
+    if (p->skips) return p->skips--, false;
+    for (int hints = 0, pause; !is_hit && hints < ZAULINTE_POLLS; hints += pause) {
+        pause = to == TO_ENTER ? hints + 1 : 1;
+        for (int i = 0; i < pause; i++) port_relax();
+        is_hit = to == TO_ENTER ? enters(m, place) : is_rung(&m->place[place].bell);
+    }
+    if (is_hit) p->misses = 0;
+    else if (1 << p->misses <= MOST) p->misses++;
+    p->skips = (uint16_t)((1 << p->misses) - 1);
+    return is_hit;
+}
+static bool tries(zaulinte_monitor *m, uint32_t place) { return enters(m, place) || polls(m, place, TO_ENTER); }
+/* Enters, and sleeps while the monitor isn't free. */
+static void sleeps(zaulinte_monitor *m, uint32_t place) {
+    bool is_in = false;
+    atomic_fetch_add(&m->sleepers, 1);
+    while (!is_in) {
+        atomic_exchange(&m->entrance.word, ASLEEP);
+        is_in = enters(m, place);
+        if (!is_in) port_sleep_while(&m->entrance, ASLEEP), is_in = tries(m, place);
+    }
+    if (atomic_fetch_sub(&m->sleepers, 1) > 1) atomic_exchange(&m->entrance.word, ASLEEP);
+}
 uint64_t zaulinte_enter(zaulinte_monitor *m, uint32_t place) {
     uint64_t refused = claim(m, place);
     if (refused) return refused;
     if (m->place[place].backs_off) back_off(&m->place[place]);
-    bool is_in = enters(m, place);
-    for (int hints = 1; !is_in && hints <= ZAULINTE_POLLS; hints *= 2) {
-        for (int i = 0; i < hints; i++) port_relax();
-        is_in = enters(m, place);
-    }
-    while (!is_in) {
-        atomic_store(&m->entrance.word, ASLEEP);
-        is_in = enters(m, place);
-        if (!is_in) port_sleep_while(&m->entrance, ASLEEP);
-    }
+    if (!tries(m, place)) sleeps(m, place);
     return 0;
 }
 uint64_t zaulinte_try_enter(zaulinte_monitor *m, uint32_t place) {
@@ -74,13 +96,12 @@ uint64_t zaulinte_try_enter(zaulinte_monitor *m, uint32_t place) {
     return enters(m, place) ? 0 : unclaim(m, place, ZAULINTE_NOT_FREE);
 }
 
-static bool is_rung(zaulinte_bell *b) { return atomic_load(&b->word) >= RUNG; }
 /* Wakes the place that has the monitor next, and blocks until `place` is inside again. */
 static void resumes(zaulinte_monitor *m, uint32_t place, uint64_t next) {
     zaulinte_bell *mine = &m->place[place].bell;
     uint32_t is = AWAKE;
     wake(m, next, RUNG);
-    for (int i = 0; i < ZAULINTE_POLLS && !is_rung(mine); i++) port_relax();
+    if (!is_rung(mine)) polls(m, place, TO_RESUME);
     atomic_compare_exchange_strong(&mine->word, &is, ASLEEP);
     while (!is_rung(mine) || zaulinte_door_try_return(at(m, place)) != ZAULINTE_DOOR_ENTERED)
         port_sleep_while(mine, ASLEEP);
@@ -161,6 +182,7 @@ uint64_t zaulinte_make(zaulinte_monitor *m, uint64_t places, uint64_t conditions
     port_make(&m->entrance);
     for (uint32_t k = (uint32_t)places; k-- > 0;) { /* a new door gives out its numbers in this order */
         port_make(&m->place[k].bell);
+        m->place[k].patience[TO_ENTER] = m->place[k].patience[TO_RESUME] = (zaulinte_patience){0, 0};
         if (zaulinte_door_give_out(&m->door, at(m, k)) != k) refused = ZAULINTE_NO_MEMORY;
     }
     if (refused) return undo(m, (uint32_t)places, refused);

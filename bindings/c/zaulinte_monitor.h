@@ -47,12 +47,18 @@ typedef struct zaulinte_bell {
     ZAULINTE_BELL_FIELDS /* the port's */
 } zaulinte_bell;
 
+/* Whether a place polls: its last polls in vain, and how many of the next polls it leaves out. */
+typedef struct zaulinte_patience {
+    uint16_t misses, skips;
+} zaulinte_patience;
+
 /* A place, at a multiple of 64 bytes: against false sharing. */
 typedef struct zaulinte_place {
     alignas(64) zaulinte_bell bell;  /* its thread sleeps on it: 0 awake, 1 asleep, 2 or 3 rung */
     ZAULINTE_WORD(uintptr_t) thread; /* the thread that has the place, from its `enter` until it has left, else 0 */
     zaulinte_door_place handle;
-    bool backs_off; /* it was handed the monitor by a place that left */
+    zaulinte_patience patience[2]; /* to enter, and to resume */
+    bool backs_off;                /* it was handed the monitor by a place that left */
 } zaulinte_place;
 
 /* The waiters on each condition, for a check: `count` is their number, `first` the priority of the waiter that a signal
@@ -74,6 +80,7 @@ typedef bool (*zaulinte_ready)(void *context, uint32_t condition, uint64_t prior
  * 64, or with `zaulinte_new`. It has a size of some 4 KB, with condition variables of some 8 KB. */
 typedef struct zaulinte_monitor {
     alignas(64) zaulinte_bell entrance; /* entering threads sleep on it */
+    ZAULINTE_WORD(uint32_t) sleepers;   /* entering threads: asleep, about to sleep, or woken and not in yet */
     ZAULINTE_WORD(uint32_t) places;     /* 0: there is no monitor */
     zaulinte_door door;
 #ifdef ZAULINTE_CHECKS

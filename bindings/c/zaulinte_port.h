@@ -19,26 +19,9 @@
  *                         handlers leave monitors, an interrupt handler can call it.
  * It may define two macros, which have a default below:
  *   port_relax()          is a hint to the processor that this is a loop that polls a word.
- *   port_thread()         returns a number of the calling thread, not 0, that no other living thread has. */
-/* Why no wake-up is lost. Each act of a place is one step of the door (zaulinte_door.h). A step that releases the
- * monitor returns the place that has it next, or that it is free. Each step is a sequentially consistent operation on
- * one word of the door, and so is each operation on a word that is named here: the argument rests on their one order.
+ *   port_thread()         returns a number of the calling thread, not 0, that no other living thread has.
  *
- * A place that is to resume. Its thread sleeps after it changed the place's word from AWAKE to ASLEEP. The releasing
- * thread exchanges the word for RUNG (LEFT, if its place left), and wakes if it was ASLEEP. So either the change finds
- * the word rung, and the thread doesn't sleep, or the exchange finds ASLEEP, and the thread is woken. A place is rung
- * once for each return.
- *
- * An entering thread E. If its attempt to enter fails, E writes ASLEEP to the entrance's word, tries again, and sleeps
- * only if that attempt fails too. Then another place has the monitor, or is owed it. The step that later leaves the
- * monitor free comes after the failed attempt, so after E's write; after that step the releasing thread reads the word.
- * It finds ASLEEP, unless another releasing thread has found it before. The thread that finds ASLEEP clears the word,
- * and wakes one entering thread.
- *  - The woken thread writes ASLEEP again before it tries, since the cleared word hides other sleepers. If it enters,
- *    its own leave wakes the next. If it fails, all that was said of E holds of it.
- *  - If no entering thread slept yet, those that were about to sleep find that the word has changed, write ASLEEP, and
- *    try again. If one of them finds ASLEEP, another entering thread F has written that later. F is awake, and tries
- *    after that write: the same holds of F. */
+ * Why no wake-up is lost, here and in Rust: docs/WAKING.md. */
 #include "zaulinte_version.h" /* an installed one has the choices of the library */
 #ifndef ZAULINTE_PORT
 #ifdef __linux__
@@ -58,8 +41,8 @@
 #endif
 #ifndef ZAULINTE_POLLS
 /* Spin hints, at most: for all polls of a thread that waits to resume, before it sleeps; and for each single pause of an
- * entering thread. */
-#define ZAULINTE_POLLS 500
+ * entering thread. More than a wake-up takes. 0: no thread polls. */
+#define ZAULINTE_POLLS 2000
 #endif
 #ifndef ZAULINTE_BACK_OFF
 #define ZAULINTE_BACK_OFF 128 /* hints for which a place lets others enter, after it got the monitor by a leave */

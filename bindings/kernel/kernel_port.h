@@ -15,7 +15,7 @@ uintptr_t caller(void); /* the thread, or this core's handler */
 void sleep_while(zaulinte_bell *b, uint32_t is);
 void wake_one(zaulinte_bell *b);
 
-#define ZAULINTE_POLLS (cores_up > 1 ? 500 : 0)
+#define ZAULINTE_POLLS (cores_up > 1 ? 2000 : 0)
 #define port_thread() caller()
 #ifndef PAUSES
 #define port_relax() __asm__ volatile("" ::: "memory") /* kernel.h has the reason */

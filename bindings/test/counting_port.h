@@ -1,5 +1,5 @@
 /* A port that counts, for monitor.c: another port, COUNTED, with the number of its bells that are made and not freed
- * yet, of its mutexes and condition variables, and of the sleeps. */
+ * yet, of its mutexes and condition variables, and of the sleeps. Each spin hint is a call of the test. */
 #ifndef COUNTED
 #ifdef __linux__
 #define COUNTED "zaulinte_port_futex.h"
@@ -11,6 +11,8 @@
 
 #include COUNTED
 extern _Atomic unsigned port_bells, port_objects, port_sleeps;
+void port_hint(void);
+#define port_relax port_hint
 
 #else
 

@@ -1,6 +1,7 @@
 /* Tests the codes of the monitor's calls that the stress doesn't cause: sizes, alignment, an allocation that fails,
- * texts. Then it tests how a thread sleeps. Each act that leaves the monitor free wakes it, it sleeps once for each
- * wait, and it still sleeps if it is cancelled.
+ * texts. Then it tests how a thread sleeps. Each act that leaves the monitor free wakes it, each of several sleepers is
+ * woken in turn, it polls first unless its last polls were in vain, it sleeps once for each wait, and it still sleeps if
+ * it is cancelled.
  *
  * The test's own rattle_alloc fails at will, and counts the memory that is kept. counting_port.h counts what the port
  * does. */
@@ -12,7 +13,7 @@
 #include <time.h>
 #include <unistd.h>
 
-enum { WAITER, OTHER, PLACES };
+enum { WAITER, OTHER, PLACES, SLEEPERS = 5 };
 enum { MOST_SLEEPS = 20 }; /* of one wait: a port may return early, now and then */
 _Atomic unsigned port_bells, port_objects, port_sleeps;
 struct tried {
@@ -153,10 +154,12 @@ static void texts(void) {
 }
 
 static void sleeps_a_little(void) { nanosleep(&(struct timespec){0, 20000000}, NULL); }
-/* Returns once another thread sleeps, or is about to. */
+/* Returns once another thread sleeps, or is about to; it doesn't poll by sleeps that end at once. */
 static void until_asleep(void) {
+    bool polls = !strcmp(COUNTED, "zaulinte_port_poll.h"); /* there each sleep is a poll */
     while (!port_sleeps) sched_yield();
     sleeps_a_little();
+    IS(port_sleeps <= MOST_SLEEPS || polls, true);
 }
 /* each act that leaves the monitor free wakes a thread that waits to enter */
 enum { LEAVES, SIGNALS_NOBODY, WAITS, ACTS };
@@ -180,6 +183,68 @@ static void wakes_entering(int act) {
     pthread_join(id, NULL);
     IS(zaulinte_free(&m), 0);
 }
+/* one leave wakes one of the threads that sleep at the entrance, and the leave of each wakes the next */
+static void *visits(void *place) {
+    ZAULINTE_CHECK(zaulinte_enter(&m, (uint32_t)(uintptr_t)place));
+    ZAULINTE_CHECK(zaulinte_leave(&m, (uint32_t)(uintptr_t)place));
+    return NULL;
+}
+static void wakes_each(void) {
+    pthread_t ids[SLEEPERS];
+    IS(zaulinte_make(&m, SLEEPERS + 1, 1, 0), 0);
+    IS(zaulinte_enter(&m, SLEEPERS), 0);
+    port_sleeps = 0;
+    for (uintptr_t k = 0; k < SLEEPERS; k++) pthread_create(&ids[k], NULL, visits, (void *)k);
+    while (port_sleeps < SLEEPERS) sched_yield();
+    sleeps_a_little();
+    IS(zaulinte_leave(&m, SLEEPERS), 0);
+    for (int k = 0; k < SLEEPERS; k++) pthread_join(ids[k], NULL);
+    IS(zaulinte_free(&m), 0);
+}
+/* each thread enters and leaves once a round: if a wake-up is lost, no later leave makes up for it */
+enum { ROUNDS = 300 };
+static pthread_barrier_t start;
+static void *meets(void *place) {
+    for (int n = 0; n < ROUNDS; n++) pthread_barrier_wait(&start), visits(place);
+    return NULL;
+}
+static void meet(unsigned threads) {
+    pthread_t ids[SLEEPERS];
+    IS(zaulinte_make(&m, threads, 1, 0), 0);
+    pthread_barrier_init(&start, NULL, threads);
+    for (uintptr_t k = 0; k < threads; k++) pthread_create(&ids[k], NULL, meets, (void *)k);
+    for (unsigned k = 0; k < threads; k++) pthread_join(ids[k], NULL);
+    pthread_barrier_destroy(&start);
+    IS(zaulinte_free(&m), 0);
+}
+/* a place that polled in vain before it slept leaves out its next 1, 3, 7 polls; once a poll succeeded it leaves out
+ * none */
+static _Atomic unsigned hints;
+static _Atomic bool is_held;
+void port_hint(void) {
+    hints++;
+    while (is_held) sched_yield();
+}
+static bool polled(bool is_hit) {
+    pthread_t id;
+    IS(zaulinte_enter(&m, OTHER), 0);
+    port_sleeps = hints = 0;
+    is_held = is_hit;
+    pthread_create(&id, NULL, visits, (void *)(uintptr_t)WAITER);
+    while (is_hit && !hints) sched_yield();
+    if (!is_hit) until_asleep();
+    unsigned polls = hints;
+    IS(zaulinte_leave(&m, OTHER), 0);
+    is_held = false;
+    pthread_join(id, NULL);
+    return polls;
+}
+static void leaves_out_polls(void) {
+    IS(zaulinte_make(&m, PLACES, 1, 0), 0);
+    for (const char *wanted = "P.P...P.......HP.P"; *wanted; wanted++) /* H: a poll that succeeds */
+        IS(polled(*wanted == 'H'), *wanted != '.');
+    IS(zaulinte_free(&m), 0);
+}
 /* a place that waits again sleeps again, and doesn't poll; meanwhile the monitor is in use */
 static void *waits_twice(void *unused) {
     ZAULINTE_CHECK(zaulinte_enter(&m, WAITER));
@@ -188,14 +253,12 @@ static void *waits_twice(void *unused) {
     return unused;
 }
 static void sleeps_once_a_wait(void) {
-    bool polls = !strcmp(COUNTED, "zaulinte_port_poll.h"); /* there each sleep is a poll */
     pthread_t id;
     IS(zaulinte_make(&m, PLACES, 1, 0), 0);
     port_sleeps = 0;
     pthread_create(&id, NULL, waits_twice, NULL);
     for (int n = 0; n < 2; n++) {
         until_asleep();
-        IS(port_sleeps <= MOST_SLEEPS || polls, true);
         IS(zaulinte_free(&m), ZAULINTE_IN_USE);
         port_sleeps = 0;
         IS(zaulinte_enter(&m, OTHER), 0);
@@ -266,6 +329,10 @@ int main(void) {
     memory();
     texts();
     for (int act = 0; act < ACTS; act++) wakes_entering(act);
+    for (int n = 0; n < 10; n++) wakes_each();
+    meet(2), meet(SLEEPERS);
+    bool may_poll = ZAULINTE_POLLS > 0, sleeps = strcmp(COUNTED, "zaulinte_port_poll.h");
+    if (may_poll && sleeps) leaves_out_polls();
     sleeps_once_a_wait();
     for (int n = 0; n < 200; n++) deleted_while_left();
     cancelled(false);

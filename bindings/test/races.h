@@ -22,9 +22,13 @@ static inline void race_pause(void) {
 #undef atomic_store_explicit
 #undef atomic_exchange
 #undef atomic_compare_exchange_strong
+#undef atomic_fetch_add
+#undef atomic_fetch_sub
 #define atomic_load(p) (race_pause(), atomic_load_explicit(p, memory_order_seq_cst))
 #define atomic_store(p, v) atomic_store_explicit(p, v, memory_order_seq_cst)
 #define atomic_store_explicit(p, v, order) (race_pause(), RACE_STORE(p, v, order), race_pause())
 #define atomic_exchange(p, v) (race_pause(), atomic_exchange_explicit(p, v, memory_order_seq_cst))
+#define atomic_fetch_add(p, v) (race_pause(), atomic_fetch_add_explicit(p, v, memory_order_seq_cst))
+#define atomic_fetch_sub(p, v) (race_pause(), atomic_fetch_sub_explicit(p, v, memory_order_seq_cst))
 #define atomic_compare_exchange_strong(p, e, v) \
     (race_pause(), atomic_compare_exchange_strong_explicit(p, e, v, memory_order_seq_cst, memory_order_seq_cst))

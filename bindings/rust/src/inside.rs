@@ -161,8 +161,8 @@ impl<T, C: Condition, M: Condition, P: Port> Inside<'_, T, C, M, P> {
 
     /// Blocks, after a step by which this place went away, until the place is inside again.
     fn go_away(&mut self, next: Next) {
-        let Place { inner, seat, backs_off, .. } = &mut *self.place;
-        *backs_off = inner.parking.go_away(seat, next);
+        let Place { inner, seat, backs_off, to_resume, .. } = &mut *self.place;
+        *backs_off = inner.parking.go_away(seat, to_resume, next);
     }
 }
 

@@ -1,7 +1,7 @@
 //! A monitor and its places.
 use crate::conditions::{Condition, NoConditions};
 use crate::door::{Door, Next, Seat};
-use crate::parking::{back_off, Departure, Parking};
+use crate::parking::{back_off, Departure, Parking, Patience};
 use crate::poison::{LockResult, PoisonError};
 use crate::refused::room_for;
 use crate::{Checks, DefaultPort, Inside, Port, Refused};
@@ -82,6 +82,8 @@ pub struct Place<T, C, M = NoConditions, P: Port = DefaultPort> {
     pub(crate) is_inside: bool,
     /// True if the place was handed the monitor by a place that left.
     pub(crate) backs_off: bool,
+    to_enter: Patience,
+    pub(crate) to_resume: Patience,
 }
 
 #[cfg(feature = "std")]
@@ -124,7 +126,14 @@ impl<T: Send, C: Condition, M: Condition, P: Port> Monitor<T, C, M, P> {
         let own = UnsafeCell::new(Own { data, signaller: 0 });
         let inner = Arc::new(Inner { _door: door, parking, poisoned, occupied, checks, own });
         seats.reverse(); // the door gave the last place out first
-        let place = |seat| Place { seat, inner: Arc::clone(&inner), is_inside: false, backs_off: false };
+        let place = |seat| Place {
+            seat,
+            inner: Arc::clone(&inner),
+            is_inside: false,
+            backs_off: false,
+            to_enter: Patience::default(),
+            to_resume: Patience::default(),
+        };
         all.extend(seats.into_iter().map(place));
         Ok((Monitor(inner), all))
     }
@@ -167,7 +176,7 @@ impl<T: Send, C: Condition, M: Condition, P: Port> Place<T, C, M, P> {
             back_off();
         }
         if !self.seat.try_enter() {
-            self.inner.parking.enter_later(&mut self.seat);
+            self.inner.parking.enter_later(&mut self.seat, &mut self.to_enter);
         }
         self.entered()
     }

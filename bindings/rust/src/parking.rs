@@ -1,26 +1,7 @@
-//! How threads sleep until the monitor is theirs, and why no wake-up is lost.
+//! How threads sleep until the monitor is theirs.
 //!
-//! The proved door says which place is inside. What is left is to put the other threads to sleep and to wake them, on
-//! words of two kinds. All accesses on which the following rests are sequentially consistent: those to these words, and
-//! the door's to its own state word, of which each releasing step writes that the monitor is free or owed.
-//!
-//! *The word of a place.* A place sleeps there while it is away. A step returns the place as the next once for each
-//! time that it is away, and the thread that made the step then swaps `OWED` in (`LEFT` if its place left the monitor).
-//! The place changes the word from `NOTHING` to `ASLEEP` before it sleeps, by a compare-exchange, and sleeps only while
-//! it is `ASLEEP`; it writes `NOTHING` again only after it found `OWED` or `LEFT`. If the swap comes after the
-//! compare-exchange it finds `ASLEEP`, and its thread wakes the place; if it comes before, the compare-exchange fails
-//! and the place doesn't sleep. Either way the attempt to return that follows succeeds, since the step came before the
-//! swap.
-//!
-//! *The word of the entrance.* All entering threads sleep there. A thread whose attempt failed writes `ASLEEP` and
-//! tries once more. If that fails too, another place had the monitor, or was owed it, at a moment after the write. That
-//! place releases the monitor later, itself or by way of the places that resume before the monitor is free. The thread
-//! whose step makes it free reads this word after the step: so it reads `ASLEEP`, or what was written later. If it
-//! reads `ASLEEP` it swaps `NOTHING` in and wakes one thread. The woken thread writes `ASLEEP` again before its next
-//! attempt, since other threads may still sleep. So while threads sleep here, one thread has yet to act. If the word is
-//! `ASLEEP`, a thread has yet to try to enter, or to make the monitor free. Else a thread has yet to wake an entering
-//! thread, or a woken thread has yet to write `ASLEEP`. (If a thread wrote `ASLEEP` and then entered, a later wake-up
-//! may wake no thread.)
+//! The proved door says which place is inside; here its threads are put to sleep and woken, on a word for each place
+//! and one for the entrance. Why no wake-up is lost, here and in C: `docs/WAKING.md` of the repository.
 use crate::door::{Next, Seat};
 use crate::refused::room_for;
 use crate::sync::AtomicU32;
@@ -30,13 +11,17 @@ use core::hint::spin_loop;
 use core::iter::successors;
 use core::sync::atomic::{Ordering::Acquire, Ordering::SeqCst};
 
-const NOTHING: u32 = 0;
-const OWED: u32 = 1;
-const ASLEEP: u32 = 2;
+// The word of a place is AWAKE, ASLEEP, or rung: with RUNG by a thread that waits or signals, with LEFT by a thread
+// that left the monitor. The word of the entrance is AWAKE or ASLEEP.
+const AWAKE: u32 = 0;
+const ASLEEP: u32 = 1;
+const RUNG: u32 = 2;
 const LEFT: u32 = 3;
 
 /// The length of a back-off, in spin hints.
 const BACK_OFF: u32 = 128;
+/// The most polls that a place leaves out after one in vain.
+const MOST: u32 = 1023;
 
 /// How a place released the monitor.
 #[derive(Clone, Copy, PartialEq)]
@@ -56,7 +41,7 @@ struct Bell<P> {
 
 impl<P: Port> Bell<P> {
     fn new(port: P) -> Self {
-        Bell { word: AtomicU32::new(NOTHING), port }
+        Bell { word: AtomicU32::new(AWAKE), port }
     }
 
     fn sleep_while(&self, is: u32) {
@@ -67,21 +52,54 @@ impl<P: Port> Bell<P> {
         self.port.wake_one(&self.word);
     }
 
-    /// Polls the word at most `most` times, until the monitor is owed to the place. Returns true if it is.
+    /// Returns true if the monitor is owed to the place.
+    fn is_rung(&self) -> bool {
+        matches!(self.word.load(Acquire), RUNG | LEFT)
+    }
+
+    /// Polls the word at most `most` times, until it is rung. Returns true if it is.
     fn polls(&self, most: u32) -> bool {
         (0..most).any(|_| {
             spin_loop();
-            matches!(self.word.load(Acquire), OWED | LEFT)
+            self.is_rung()
         })
     }
 
-    /// Sleeps until the monitor is owed to the place.
-    fn sleep_until_owed(&self) {
-        if self.word.compare_exchange(NOTHING, ASLEEP, SeqCst, SeqCst).is_ok() {
+    /// Sleeps until the word is rung.
+    fn sleep_until_rung(&self) {
+        if self.word.compare_exchange(AWAKE, ASLEEP, SeqCst, SeqCst).is_ok() {
             while self.word.load(SeqCst) == ASLEEP {
                 self.sleep_while(ASLEEP);
             }
         }
+    }
+}
+
+/// Whether a place polls, to enter or to resume. After polls in vain it leaves out its next 1, 3, 7 .. at most `MOST`
+/// polls: if the thread that it waits for has no processor, or sleeps, polls only take time.
+#[derive(Default)]
+pub(crate) struct Patience {
+    /// The polls in vain since the last that succeeded, at most those that make `skips` `MOST`.
+    misses: u32,
+    /// The polls that are still left out.
+    skips: u32,
+}
+
+impl Patience {
+    /// Polls by `poll`, unless that is left out. Returns true if `poll` did.
+    fn polls(&mut self, poll: impl FnOnce() -> bool) -> bool {
+        if self.skips > 0 {
+            self.skips -= 1;
+            return false;
+        }
+        let is_hit = poll();
+        if is_hit {
+            self.misses = 0;
+        } else if 1 << self.misses <= MOST {
+            self.misses += 1;
+        }
+        self.skips = (1 << self.misses) - 1;
+        is_hit
     }
 }
 
@@ -107,6 +125,8 @@ impl Drop for EndsIfUnwound {
 /// The words of a monitor's threads.
 pub(crate) struct Parking<P> {
     entrance: Bell<P>,
+    /// The entering threads that sleep, or are about to, or have been woken and aren't in yet.
+    sleepers: AtomicU32,
     bells: Vec<Bell<P>>,
 }
 
@@ -115,7 +135,7 @@ impl<P: Port> Parking<P> {
     pub(crate) fn new(places: usize, mut ports: impl FnMut() -> P) -> Result<Self, Refused> {
         let mut bells = room_for(places)?;
         bells.extend((0..places).map(|_| Bell::new(ports())));
-        Ok(Parking { entrance: Bell::new(ports()), bells })
+        Ok(Parking { entrance: Bell::new(ports()), sleepers: AtomicU32::new(0), bells })
     }
 
     /// Returns the number of places.
@@ -134,42 +154,54 @@ impl<P: Port> Parking<P> {
             return;
         };
         let bell = &self.bells[place];
-        let owed = if departure == Departure::Leaves { LEFT } else { OWED };
-        if bell.word.swap(owed, SeqCst) == ASLEEP {
+        let how = if departure == Departure::Leaves { LEFT } else { RUNG };
+        if bell.word.swap(how, SeqCst) == ASLEEP {
             bell.wake_one();
         }
     }
 
     #[cold]
     fn wake_entering(&self) {
-        if self.entrance.word.swap(NOTHING, SeqCst) == ASLEEP {
+        if self.entrance.word.swap(AWAKE, SeqCst) == ASLEEP {
             self.entrance.wake_one();
         }
     }
 
-    /// Enters, after an attempt that failed: sleeps as long as the monitor isn't free.
+    /// Enters, after an attempt that failed: polls, then sleeps while the monitor isn't free.
     #[cold]
-    pub(crate) fn enter_later(&self, seat: &mut Seat) {
-        if tries(seat, P::POLLS) {
-            return;
+    pub(crate) fn enter_later(&self, seat: &mut Seat, patience: &mut Patience) {
+        if !patience.polls(|| tries(seat, P::POLLS)) {
+            self.enter_asleep(seat, patience);
         }
-        self.entrance.word.store(ASLEEP, SeqCst);
-        while !seat.try_enter() {
+    }
+
+    fn enter_asleep(&self, seat: &mut Seat, patience: &mut Patience) {
+        self.sleepers.fetch_add(1, SeqCst);
+        loop {
+            self.entrance.word.swap(ASLEEP, SeqCst);
+            if seat.try_enter() {
+                break;
+            }
             self.entrance.sleep_while(ASLEEP);
-            self.entrance.word.store(ASLEEP, SeqCst);
+            if seat.try_enter() || patience.polls(|| tries(seat, P::POLLS)) {
+                break;
+            }
+        }
+        if self.sleepers.fetch_sub(1, SeqCst) > 1 {
+            self.entrance.word.swap(ASLEEP, SeqCst);
         }
     }
 
     /// Wakes the next thread after a step by which `seat` went away, and returns inside once the monitor is owed to it.
     /// Returns true if a place that left handed it off.
-    pub(crate) fn go_away(&self, seat: &mut Seat, next: Next) -> bool {
+    pub(crate) fn go_away(&self, seat: &mut Seat, patience: &mut Patience, next: Next) -> bool {
         let ends = EndsIfUnwound;
         self.wake(next, Departure::GoesAway);
         let bell = &self.bells[seat.number()];
-        if !bell.polls(P::POLLS) {
-            bell.sleep_until_owed();
+        if !bell.is_rung() && !patience.polls(|| bell.polls(P::POLLS)) {
+            bell.sleep_until_rung();
         }
-        let has_left = bell.word.swap(NOTHING, SeqCst) == LEFT;
+        let has_left = bell.word.swap(AWAKE, SeqCst) == LEFT;
         assert!(seat.try_return(), "place {} was woken and the monitor isn't owed to it", seat.number());
         core::mem::forget(ends);
         has_left

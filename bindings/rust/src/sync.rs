@@ -48,8 +48,12 @@ mod drawn {
             may_yield_around(|| self.0.load(order))
         }
 
-        pub(crate) fn store(&self, value: u32, order: Ordering) {
-            may_yield_around(|| self.0.store(value, order));
+        pub(crate) fn fetch_add(&self, more: u32, order: Ordering) -> u32 {
+            may_yield_around(|| self.0.fetch_add(more, order))
+        }
+
+        pub(crate) fn fetch_sub(&self, less: u32, order: Ordering) -> u32 {
+            may_yield_around(|| self.0.fetch_sub(less, order))
         }
 
         pub(crate) fn swap(&self, value: u32, order: Ordering) -> u32 {

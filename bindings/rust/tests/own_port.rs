@@ -3,7 +3,7 @@
 use std::cell::Cell;
 use std::panic::{catch_unwind, resume_unwind, AssertUnwindSafe};
 use std::sync::atomic::{AtomicU32, Ordering::SeqCst};
-use std::sync::{mpsc, Arc, Condvar, Mutex};
+use std::sync::{mpsc, Arc, Barrier, Condvar, Mutex};
 use std::thread;
 use std::time::Duration;
 use zaulinte::{conditions, Checks, Monitor, NoConditions, Port};
@@ -165,6 +165,50 @@ fn a_lost_wake_up_of_a_waiter_hangs() {
 fn a_lost_wake_up_of_an_entering_thread_hangs() {
     assert!(gets_on(false, true, LATE));
     assert!(!gets_on(false, false, SOON));
+}
+
+#[test]
+fn threads_that_sleep_at_the_entrance_wake_each_other() {
+    const SLEEPERS: usize = 5;
+    let asleep = Arc::new(AtomicU32::new(0));
+    let mut places = monitor_of(SLEEPERS + 1, || Sleeper { asleep: asleep.clone(), wakes: true, ..Sleeper::default() });
+    let mut here = places.pop().unwrap();
+    for _ in 0..20 {
+        asleep.store(0, SeqCst);
+        let inside = here.enter().unwrap();
+        let (tells, is_told) = mpsc::channel();
+        for mut there in places.drain(..) {
+            let tells = tells.clone();
+            thread::spawn(move || {
+                drop(there.enter().unwrap());
+                let _ = tells.send(there);
+            });
+        }
+        while (asleep.load(SeqCst) as usize) < SLEEPERS {
+            thread::yield_now();
+        }
+        drop(inside); // the one leave that wakes a thread from here
+        places.extend((0..SLEEPERS).map(|_| is_told.recv_timeout(LATE).expect("a thread sleeps for ever")));
+    }
+}
+
+// Each thread enters and leaves once a round: if a wake-up is lost, no later leave makes up for it.
+#[test]
+fn threads_that_meet_at_the_entrance_all_enter() {
+    for threads in [2, 5] {
+        let (start, (tells, is_told)) = (Arc::new(Barrier::new(threads)), mpsc::channel());
+        for mut place in monitor_of(threads, || Sleeper { wakes: true, ..Sleeper::default() }) {
+            let (start, tells) = (start.clone(), tells.clone());
+            thread::spawn(move || {
+                for _ in 0..300 {
+                    start.wait();
+                    drop(place.enter().unwrap());
+                }
+                let _ = tells.send(());
+            });
+        }
+        (0..threads).for_each(|_| is_told.recv_timeout(LATE).expect("a thread sleeps for ever"));
+    }
 }
 
 #[test]

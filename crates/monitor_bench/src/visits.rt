@@ -126,16 +126,17 @@ where
     Ok((start.elapsed(rt)?, met))
 }
 
-// Returns the value below which so many of a hundred values are, or 0 if there are none.
+// Returns the value that so many of a hundred values are below, or 0 if there are none.
 fn part_of(sorted: &[u64], hundredths: usize) -> u64 {
     let last = sorted.len().saturating_sub(1);
     let at = last.saturating_mul(hundredths) / 100;
     sorted.get(at).copied().unwrap_or(0)
 }
 
-/// Prints a line for each figure of these visits, which took `spent` in all: the time of a visit; how late threads
-/// entered, of the entries that had to wait: the median, 99 of 100 and the most; and how long they waited in all.
-/// Returns the first error of a thread, or an error if out of memory or if printing fails.
+/// Prints a line for each figure of these visits, which took `spent` in all. The first is the time of a visit. The next
+/// three say how late threads entered, of the entries that had to wait: the median, 99 of 100 and the most. The last is
+/// how long these entries took in all. Returns the first error of a thread, or an error if out of memory or if printing
+/// fails.
 pub fn show<R: Print>(
     rt: &R,
     alloc: Global,

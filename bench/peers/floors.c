@@ -3,7 +3,8 @@
    nothing but the order by tickets.
 
      gcc -O2 -pthread -o build/floors peers/floors.c && build/floors [TURNS]
-     build/floors --mutex [TURNS]     only the mutex, as a row of bench/run */
+     build/floors --mutex [TURNS]                   only the mutex, as a row of bench/run
+     build/floors --mutex MICROS THREADS VISITS     visits to the mutex */
 #define _GNU_SOURCE
 #include <linux/futex.h>
 #include <pthread.h>
@@ -179,8 +180,15 @@ static void tickets(int threads, uint64_t turns) {
     printf("a ticket lock, %d threads            %.1f\n", threads, (now() - start) / (turns * threads));
 }
 
+typedef struct { pthread_mutex_t lock; uint64_t value; } monitor;
+static void make(monitor *m) { pthread_mutex_init(&m->lock, NULL); }
+static void enter(monitor *m, int me) { (void)me; pthread_mutex_lock(&m->lock); }
+static void leave(monitor *m, int me) { (void)me; pthread_mutex_unlock(&m->lock); }
+#include "visits_body.c"
+
 int main(int argc, char **argv) {
     int alone = argc > 1 && !strcmp(argv[1], "--mutex");
+    if (alone && argc == 5) return show_visits(argv + 2);
     uint64_t turns = argc > 1 + alone ? strtoull(argv[1 + alone], NULL, 10) : 1000000;
     if (alone) {
         printf("enter_leave %.0f ns\n", mutex_pair(turns));

@@ -1,7 +1,9 @@
 /* The loads of a Hoare monitor in C, and main. The file that includes this one defines `monitor` (with the data `value`,
    `cells`, `count`, `last` and `finished`), `make`, and each call by a place: enter, leave, wait_on, signal_on,
-   signal_leave, queue, waiting (how many) and all_wait (on every condition). A program's argument is TURNS, the number
-   of iterations; it prints a line for each measurement. */
+   signal_leave, queue and waiting (how many). A program's argument is TURNS, the number of iterations; it prints a line
+   for each measurement. With three arguments it makes visits. */
+#include "visits_body.c"
+
 static void append(monitor *m, int me, uint64_t x) {
     enter(m, me);
     if (m->count == RING) wait_on(m, me, 1, 0);
@@ -22,7 +24,7 @@ static uint64_t take(monitor *m, int me) {
 /* what a place meets between its visits: the most others that entered, their sum, how often no other entered, and the
    number of visits */
 typedef struct { uint64_t largest, sum, none, visits; } others;
-typedef struct { monitor *m; int me; uint64_t turns, sum; others met; } job;
+typedef struct { monitor *m; int me, threads; uint64_t turns, sum; others met; } job;
 static void *adds(void *p) {
     job *j = p;
     for (uint64_t i = 0; i < j->turns; i++) { enter(j->m, j->me); j->m->value++; leave(j->m, j->me); }
@@ -44,21 +46,37 @@ static void *pongs(void *p) {
     }
     return NULL;
 }
+/* A driver waits on its condition until all other threads wait, resumes those on condition 0, and so on. The value
+   counts the threads that have arrived. The last signals the driver, and waits before the driver can enter again. */
+enum { DRIVER = CONDITIONS - 1 };
+static void rest(job *j, int c, uint64_t priority) {
+    enter(j->m, j->me);
+    if (++j->m->value == (uint64_t)j->threads) signal_on(j->m, j->me, DRIVER);
+    wait_on(j->m, j->me, c, priority);
+}
+static void *rests(void *p) {
+    job *j = p;
+    for (uint64_t i = 0; i < j->turns; i++) { rest(j, 0, (uint64_t)j->me + 1); leave(j->m, j->me); }
+    return NULL;
+}
 static void *links(void *p) {
     job *j = p;
     for (uint64_t i = 0; i < j->turns; i++) {
-        enter(j->m, j->me);
-        wait_on(j->m, j->me, j->me, 0);
+        rest(j, j->me, 1);
         if (j->me + 1 < CONDITIONS) signal_on(j->m, j->me, j->me + 1);
         leave(j->m, j->me);
     }
     return NULL;
 }
-static void *pulls(void *p) {
+static void *drives(void *p) {
     job *j = p;
-    for (uint64_t done = 0; done < j->turns;) {
+    for (uint64_t i = 0; i < j->turns; i++) {
         enter(j->m, j->me);
-        if (all_wait(j->m, j->me)) { signal_on(j->m, j->me, 0); done++; }
+        if (++j->m->value < (uint64_t)j->threads) wait_on(j->m, j->me, DRIVER, 0);
+        j->m->value = 0;
+        leave(j->m, j->me);
+        enter(j->m, j->me);
+        while (queue(j->m, j->me, 0)) signal_on(j->m, j->me, 0);
         leave(j->m, j->me);
     }
     return NULL;
@@ -141,7 +159,7 @@ static double run(load l) {
     clock_gettime(CLOCK_MONOTONIC, &a);
     for (int i = 0; i < l.threads; i++) {
         int is_last = i == l.threads - 1;
-        jobs[i] = (job){&m, i, is_last ? l.last_turns : l.turns, 0, {0}};
+        jobs[i] = (job){&m, i, l.threads, is_last ? l.last_turns : l.turns, 0, {0}};
         pthread_create(&ids[i], NULL, is_last ? l.last : i % 2 ? l.odd : l.even, &jobs[i]);
     }
     memset(&found, 0, sizeof found);
@@ -166,8 +184,8 @@ static int show_waits(uint64_t turns) {
         if (found.sum != pairs * (each * (each - 1) / 2)) return 1;
         printf("buffer_%d_%d %.0f ns\n", pairs, pairs, ns);
     }
-    printf("waiting_16 %.0f ns\n", run((load){17, pings, pings, pongs, part, part * 16, part * 16}));
-    printf("chain_8 %.0f ns\n", run((load){9, links, links, pulls, part, part, part * 8}));
+    printf("waiting_16 %.0f ns\n", run((load){17, rests, rests, drives, part, part, part * 16}));
+    printf("chain_8 %.0f ns\n", run((load){9, links, links, drives, part, part, part * 8}));
     printf("mixed_9 %.0f ns\n", run((load){9, works, works, sweeps, part, part, part * WORKERS}));
     return 0;
 }
@@ -180,6 +198,7 @@ static void show_others(uint64_t turns) {
     printf("others_none %lu percent\n", (unsigned long)(100 * met.none / visits));
 }
 int main(int argc, char **argv) {
+    if (argc == 4) return show_visits(argv + 1);
     uint64_t turns = argc > 1 ? strtoull(argv[1], NULL, 10) : 1000000;
     for (int threads = 1; threads <= 8; threads *= 2) {
         uint64_t each = threads == 1 ? turns : turns / 10;

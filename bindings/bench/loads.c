@@ -43,10 +43,5 @@ static int waiting(monitor *m, int me) {
     }
     return (int)all;
 }
-static int all_wait(monitor *m, int me) {
-    int all = 1;
-    for (int c = 0; c < CONDITIONS; c++) all = all && queue(m, me, c);
-    return all;
-}
 
 #include "../../bench/peers/loads_body.c"

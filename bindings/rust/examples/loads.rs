@@ -1,7 +1,11 @@
 //! The loads of bench/peers/hoare.rs over this crate, in the same form: bench/run compares them. `loads TURNS`.
+#[path = "loads/visits.rs"]
+mod visits;
+
 use std::sync::Mutex;
 use std::thread;
 use std::time::Instant;
+use visits::Visits;
 use zaulinte::{conditions, Inside, Monitor, Place};
 
 conditions! { enum On { A, B, C, D, E, F, G, H } }
@@ -40,28 +44,64 @@ fn contended(threads: u64, turns: u64) -> f64 {
     ns
 }
 
-fn waits(mut user: User, turns: u64) {
-    let priority = user.number() as u64;
-    let mut inside = user.enter().unwrap();
-    (0..turns).for_each(|_| inside.wait(On::A, priority).unwrap());
-}
-
-fn signals(mut user: User, turns: u64, may: fn(&mut Inside<'_, Data, On>) -> bool) {
-    let mut done = 0;
-    while done < turns {
+fn hand_over(turns: u64) -> f64 {
+    let waits = move |mut user: User| {
         let mut inside = user.enter().unwrap();
-        if may(&mut inside) {
-            inside.signal(On::A).unwrap();
-            done += 1;
+        (0..turns).for_each(|_| inside.wait(On::A, 0).unwrap());
+    };
+    let signals = move |mut user: User| {
+        let mut done = 0;
+        while done < turns {
+            done += u64::from(user.enter().unwrap().signal(On::A).unwrap());
         }
-    }
+    };
+    run(turns, vec![Box::new(waits), Box::new(signals)]).0
 }
 
-fn waiting(threads: u64, turns: u64) -> f64 {
-    let mut bodies: Vec<Box<dyn FnOnce(User) + Send>> = vec![];
-    (0..threads).for_each(|_| bodies.push(Box::new(move |user| waits(user, turns))));
-    bodies.push(Box::new(move |user| signals(user, turns * threads, |inside| inside.queue(On::A))));
-    run(turns * threads, bodies).0
+// Enters and waits. The value counts the threads that have arrived: the last of them signals the driver, and waits
+// before the driver can enter again. The driver's condition is H, on which the last link of a chain waits too.
+fn rest(user: &mut User, waiters: u64, on: On, priority: u64) -> Inside<'_, Data, On> {
+    let mut inside = user.enter().unwrap();
+    inside.value += 1;
+    if inside.value > waiters {
+        inside.signal(On::H).unwrap();
+    }
+    inside.wait(on, priority).unwrap();
+    inside
+}
+
+// Waits until all others wait, and resumes those on condition A.
+fn drive(user: &mut User, waiters: u64) {
+    let mut inside = user.enter().unwrap();
+    inside.value += 1;
+    if inside.value <= waiters {
+        inside.wait(On::H, 0).unwrap();
+    }
+    inside.value = 0;
+    drop(inside);
+    let mut inside = user.enter().unwrap();
+    while inside.signal(On::A).unwrap() {}
+}
+
+// So many threads make a visit in each turn, in which they wait, and a driver resumes them.
+fn driven(waiters: u64, turns: u64, visit: fn(&mut User, u64)) -> f64 {
+    let waits = move |mut user: User| (0..turns).for_each(|_| visit(&mut user, waiters));
+    let mut bodies: Vec<Box<dyn FnOnce(User) + Send>> = (0..waiters).map(|_| Box::new(waits) as _).collect();
+    bodies.push(Box::new(move |mut user| (0..turns).for_each(|_| drive(&mut user, waiters))));
+    run(turns * waiters, bodies).0
+}
+
+fn waiting(user: &mut User, waiters: u64) {
+    let priority = user.number() as u64 + 1;
+    drop(rest(user, waiters, On::A, priority));
+}
+
+fn link(user: &mut User, waiters: u64) {
+    let me = user.number();
+    let mut inside = rest(user, waiters, ON[me], 1);
+    if me + 1 < ON.len() {
+        inside.signal(ON[me + 1]).unwrap();
+    }
 }
 
 fn append(user: &mut User, item: u64) {
@@ -101,22 +141,6 @@ fn buffer(pairs: u64, turns: u64) -> f64 {
     let (ns, _) = run(turns * pairs, bodies);
     assert_eq!(*SUM.lock().unwrap(), pairs * (turns * (turns - 1) / 2));
     ns
-}
-
-fn chained(turns: u64) -> f64 {
-    let links = move |mut user: User| {
-        let me = user.number();
-        for _ in 0..turns {
-            let mut inside = user.enter().unwrap();
-            inside.wait(ON[me], 0).unwrap();
-            if me + 1 < ON.len() {
-                inside.signal(ON[me + 1]).unwrap();
-            }
-        }
-    };
-    let mut bodies: Vec<Box<dyn FnOnce(User) + Send>> = (0..ON.len()).map(|_| Box::new(links) as _).collect();
-    bodies.push(Box::new(move |user| signals(user, turns, |inside| ON.iter().all(|&on| inside.queue(on)))));
-    run(turns * ON.len() as u64, bodies).0
 }
 
 fn draw(seed: u64) -> u64 {
@@ -161,16 +185,21 @@ fn mixed(turns: u64) -> f64 {
 }
 
 fn main() {
+    if let Some(visits) = Visits::asked() {
+        let (_monitor, places) = Monitor::<Data, On>::new(Data::default(), visits.threads).unwrap();
+        return visits
+            .show(places.into_iter().collect(), |user: &mut User, inside| inside(&mut user.enter().unwrap().value));
+    }
     let turns: u64 = std::env::args().nth(1).and_then(|a| a.parse().ok()).unwrap_or(1_000_000);
     println!("enter_leave {:.0} ns", contended(1, turns));
     for threads in [2, 4, 8] {
         println!("enter_leave_{threads} {:.0} ns", contended(threads, turns / 10));
     }
-    println!("hand_over {:.0} ns", waiting(1, turns / 100));
+    println!("hand_over {:.0} ns", hand_over(turns / 100));
     for pairs in [1, 4] {
         println!("buffer_{pairs}_{pairs} {:.0} ns", buffer(pairs, turns / 100));
     }
-    println!("waiting_16 {:.0} ns", waiting(16, turns / 1000));
-    println!("chain_8 {:.0} ns", chained(turns / 1000));
+    println!("waiting_16 {:.0} ns", driven(16, turns / 1000, waiting));
+    println!("chain_8 {:.0} ns", driven(8, turns / 1000, link));
     println!("mixed_9 {:.0} ns", mixed(turns / 1000));
 }

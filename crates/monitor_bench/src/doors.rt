@@ -5,7 +5,9 @@ use crate::fairness::{Others, all_met, count_others};
 use crate::mixed::{WORKERS, sweep, visit_many};
 use crate::rows::no_memory;
 use crate::tries::{try_free, try_held};
-use crate::turns::{CONDITIONS, Counter, add_many, link_many, signal_many, stay_many, wait_many};
+use crate::turns::{
+    CONDITIONS, Counter, Link, add_many, drive_many, link_many, signal_many, wait_many,
+};
 use baton_door::door::Door;
 use hoare_law::monitor::Monitor;
 use std::rt::Clock;
@@ -48,13 +50,13 @@ pub enum Solo {
 pub enum Act {
     /// All enter, add one and leave.
     Enter,
-    /// All enter, work inside for 0.1 ms and leave.
-    Stay,
     /// All enter, count how many others entered since their last visit, and leave.
     CountOthers,
-    /// This many threads wait, with their number as the priority, and one more signals them.
-    Wait(u64),
-    /// Eight threads are a chain of signallers, and a ninth signals the first whenever all wait.
+    /// One thread waits, and another signals it.
+    HandOver,
+    /// All but one wait with priorities. The driver waits until all of them wait, and then resumes all.
+    Rounds,
+    /// Eight are a chain of signallers. The driver waits until all of them wait, and then signals the first.
     Chain,
     /// Eight threads wait, signal, pass and leave, and a ninth resumes waiters.
     Mix,
@@ -65,6 +67,8 @@ pub enum Act {
 struct Team {
     act: Act,
     turns: u64,
+    // How many threads there are but one, the driver.
+    waiters: u64,
     // How many threads have taken a role.
     started: AtomicU64,
     // How many workers of `Mix` are done.
@@ -72,30 +76,38 @@ struct Team {
 }
 
 impl Team {
-    // Does the work of the next role. Returns what the place met with `CountOthers`, else nothing met. Returns an error
-    // if the clock fails in `Stay`.
-    fn work<R: Wait + Clock, M: Monitor<Counter>>(
-        &self,
-        rt: &R,
-        m: &M,
-        out: M::Out,
-    ) -> io::Result<Others>
+    // Does the work of the next role. Returns what the place met with `CountOthers`, else nothing met.
+    fn work<R: Wait, M: Monitor<Counter>>(&self, rt: &R, m: &M, out: M::Out) -> Others
         requires { M.is_of m.now out }
     {
         let role = self.started.fetch_add(1, Ordering::SeqCst);
         let turns = self.turns;
         match self.act {
             Act::Enter => add_many(rt, m, out, turns),
-            Act::Stay => stay_many(rt, m, out, turns)?,
-            Act::CountOthers => return Ok(count_others(rt, m, out, turns)),
-            Act::Wait(waiters) if role < waiters => wait_many(rt, m, out, turns, role),
-            Act::Wait(waiters) => signal_many(rt, m, out, turns.saturating_mul(waiters), 1),
-            Act::Chain if role < 8 => link_many(rt, m, out, turns, role as usize),
-            Act::Chain => signal_many(rt, m, out, turns, CONDITIONS),
+            Act::CountOthers => return count_others(rt, m, out, turns),
+            Act::HandOver if role == 0 => wait_many(rt, m, out, turns),
+            Act::HandOver => signal_many(rt, m, out, turns),
+            Act::Rounds if role < self.waiters => {
+                let link = Link {
+                    condition: 0,
+                    priority: role + 1,
+                    next: CONDITIONS,
+                };
+                link_many(rt, m, out, turns, link, self.waiters);
+            }
+            Act::Chain if role < 8 => {
+                let link = Link {
+                    condition: role as usize,
+                    priority: 1,
+                    next: role as usize + 1,
+                };
+                link_many(rt, m, out, turns, link, self.waiters);
+            }
+            Act::Rounds | Act::Chain => drive_many(rt, m, out, turns, self.waiters),
             Act::Mix if role < WORKERS => visit_many(rt, m, out, role, turns, &self.done),
             Act::Mix => sweep(rt, m, out, &self.done),
         }
-        Ok(Others::NONE)
+        Others::NONE
     }
 }
 
@@ -114,17 +126,18 @@ where
     let team = Team {
         act,
         turns,
+        waiters: places.len().saturating_sub(1) as u64,
         started: AtomicU64::new(0),
         done: AtomicU64::new(0),
     };
     let ended = thread::map_vec(
         rt,
         places,
-        &|out| -> io::Result<Others>
+        &|out| -> Others
             requires { M.is_of m.now out }
         { team.work(rt, m, out) },
     )?;
-    all_met(ended)
+    Ok(all_met(ended))
 }
 
 // Does the work of one thread at the last place, or the last two, `turns` times. Returns an error if there are fewer
@@ -153,8 +166,8 @@ fn with_one_thread<R: Wait, M: Monitor<Counter>>(
 
 /// Lets the places of a counter do their load, `turns` times each. Returns how long that took, and what all places met,
 /// which only `CountOthers` counts. Returns an error if out of memory, if there is no place for `OneThread`, or one
-/// alone for `TryHeld`, if the clock fails, or if an attempt has the wrong result. `Wait` has to have one place more
-/// than waiters, and `Chain` and `Mix` nine places: else they may never end.
+/// alone for `TryHeld`, if the clock fails, or if an attempt has the wrong result. `HandOver` has to have two places,
+/// `Chain` and `Mix` nine: else they may never end.
 pub fn count_with<R: Threads + Wait + Clock + Sync, M: SharedCounter>(
     rt: &R,
     m: &M,

@@ -80,11 +80,7 @@ pub fn count_others<R: Wait, M: Monitor<Counter>>(rt: &R, m: &M, out: M::Out, tu
     others
 }
 
-/// Returns the record of the visits of all records, or the first error.
-pub fn all_met(records: Vec<io::Result<Others>>) -> io::Result<Others> {
-    let mut all = Others::NONE;
-    for one in records {
-        all = all.and(one?);
-    }
-    Ok(all)
+/// Returns the record of the visits of all records.
+pub fn all_met(records: Vec<Others>) -> Others {
+    records.iter().fold(Others::NONE, |all, one| all.and(*one))
 }

@@ -3,6 +3,8 @@
 //! - `monitor_bench` without arguments prints the names of its figures, and how it is called.
 //! - `monitor_bench TURNS` measures the baton door, and prints a line `NAME VALUE ns` for each figure, with other units
 //!   for how many others enter. With `--ticket` before TURNS it measures the ticket door.
+//! - `monitor_bench MICROS THREADS VISITS` measures visits of so many microseconds by so many threads, each of which
+//!   makes so many, on the baton door; with `--ticket` before MICROS on the ticket door.
 //! - `monitor_bench --book TURNS` measures the book of queues alone, with the clock, and the size of a book in bytes.
 //!
 //! If the arguments are others, the program prints on standard error how it is called, and ends with status 2.
@@ -18,6 +20,7 @@ mod mixed;
 mod rows;
 mod tries;
 mod turns;
+mod visits;
 
 use crate::asked::{Asked, USAGE, asked_by, show};
 use std::process::ExitCode;
@@ -39,6 +42,7 @@ fn main(rt: HostRuntime) -> anyhow::Result<ExitCode> {
     match asked_by(words.get(1..).unwrap_or_default()) {
         Asked::Names => show(&rt)?,
         Asked::Door(kind, turns) => rows::measure(&rt, alloc, kind, turns)?,
+        Asked::Visits(kind, visits) => rows::measure_visits(&rt, alloc, kind, visits)?,
         Asked::Book(turns) => book::measure(&rt, alloc, turns)?,
         Asked::Usage => {
             eprintln!(rt; "{USAGE}")?;

@@ -2,7 +2,7 @@
 //! fixed row of numbers. The ninth resumes waiters, by passes, until the eight are done.
 ghost use Rattle.std.specs.Prelude.{◌<◌};
 
-use crate::turns::Counter;
+use crate::turns::{Counter, count};
 use hoare_law::monitor::Monitor;
 use hoare_law::waits::Waits;
 use std::sync::Wait;
@@ -16,17 +16,6 @@ pub const WORKERS: u64 = 8;
 fn draw(seed: u64) -> u64 {
     seed.wrapping_mul(6364136223846793005)
         .wrapping_add(1442695040888963407)
-}
-
-// Adds one to the counter.
-fn count<M: Monitor<Counter>>(m: &M, inside: M::In) -> M::In
-    requires { M.is_of_in m.now inside }
-    ensures { M.is_of_in m.now result }
-{
-    let mut inside = inside;
-    let counter = M::state_mut(&mut inside, m);
-    counter.value = counter.value.wrapping_add(1);
-    inside
 }
 
 // Returns true if fewer than half of the workers wait.

@@ -9,6 +9,7 @@ use crate::mesa::mesa_buffered;
 use crate::mixed::WORKERS;
 use crate::tell;
 use crate::turns::Counter;
+use crate::visits::{Visits, show, visited};
 use anyhow::Context;
 use baton_door::door::Door;
 use baton_door::place::DoorOut;
@@ -95,17 +96,16 @@ const ROWS: &[Row] = &[
     row!("enter_leave_2", 2, threads!(Act::Enter), 10, 2),
     row!("enter_leave_4", 4, threads!(Act::Enter), 10, 4),
     row!("enter_leave_8", 8, threads!(Act::Enter), 10, 8),
-    row!("hand_over", 2, threads!(Act::Wait(1)), 100, 1),
+    row!("hand_over", 2, threads!(Act::HandOver), 100, 1),
     row!("buffer_1_1", 2, Data::Buffer, 100, 1),
     row!("buffer_4_4", 8, Data::Buffer, 100, 4),
-    row!("waiting_16", 17, threads!(Act::Wait(16)), 1000, 16),
+    row!("waiting_16", 17, threads!(Act::Rounds), 1000, 16),
     row!("chain_8", 9, threads!(Act::Chain), 1000, 8),
     row!("mixed_9", 9, threads!(Act::Mix), 1000, WORKERS),
     row!("mesa_buffer_1_1", 2, Data::MesaBuffer, 100, 1),
     row!("mesa_buffer_4_4", 8, Data::MesaBuffer, 100, 4),
     row!("try_enter", 1, one_thread!(Solo::TryFree), 1, 1),
     row!("try_enter_no", 2, one_thread!(Solo::TryHeld), 1, 1),
-    row!("long_visits_8", 8, threads!(Act::Stay), 1000, 8),
 ];
 
 /// Returns the error that reports out of memory. It also reports a refused door or buffer, and a missing place.
@@ -254,4 +254,24 @@ pub fn measure<R: Print + Clock + Threads + Wait + Sync>(
     let load = Load::Threads(Act::CountOthers);
     let (_spent, others) = counter_row(rt, alloc, kind, 8, load, turns / 10)?;
     Ok(others.show(rt)?)
+}
+
+/// Measures visits of some length on a door of this kind, and prints a line for each figure. Returns an error if the
+/// visits can't be made, or if printing fails.
+pub fn measure_visits<R: Print + Clock + Threads + Wait + Sync>(
+    rt: &R,
+    alloc: Global,
+    kind: DoorKind,
+    visits: Visits,
+) -> io::Result<()> {
+    let counter: Counter = Unconstrained { value: 0 };
+    let (spent, met) = on_places!(
+        kind,
+        rt,
+        alloc,
+        counter,
+        visits.threads,
+        visited(alloc, visits)
+    )?;
+    show(rt, alloc, visits, spent, met)
 }

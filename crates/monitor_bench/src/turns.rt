@@ -3,11 +3,7 @@ ghost use Rattle.std.specs.Prelude.{◌<◌};
 
 use hoare_law::monitor::Monitor;
 use hoare_law::unconstrained::Unconstrained;
-use hoare_law::waits::Waits;
-use std::io;
-use std::rt::Clock;
 use std::sync::Wait;
-use std::time::{Duration, Instant};
 
 /// Number of conditions of a counter, and of links in a chain.
 pub const CONDITIONS: usize = 8;
@@ -15,8 +11,8 @@ pub const CONDITIONS: usize = 8;
 /// The data: a counter with eight conditions.
 pub type Counter = Unconstrained<u64, 8>;
 
-// How long a place works inside in a long visit, in microseconds.
-const WORK: u64 = 100;
+// The condition on which a driver waits. In a chain the last link waits there too, after the driver.
+const DRIVER: usize = CONDITIONS - 1;
 
 /// Enters, adds one and leaves, `turns` times.
 pub fn add_many<R: Wait, M: Monitor<Counter>>(rt: &R, m: &M, out: M::Out, turns: u64)
@@ -31,70 +27,19 @@ pub fn add_many<R: Wait, M: Monitor<Counter>>(rt: &R, m: &M, out: M::Out, turns:
     }
 }
 
-// Polls the clock for `WORK` microseconds.
-fn work<R: Wait + Clock>(rt: &R) -> io::Result<()> {
-    let start = Instant::now(rt)?;
-    for _ in rt.forever() {
-        if start.elapsed(rt)? >= Duration::from_micros(WORK) {
-            return Ok(());
-        }
-    }
-    unreachable!()
-}
-
-/// Enters, works inside for `WORK` microseconds and leaves, `turns` times. Returns an error if the clock fails.
-pub fn stay_many<R: Wait + Clock, M: Monitor<Counter>>(
-    rt: &R,
-    m: &M,
-    out: M::Out,
-    turns: u64,
-) -> io::Result<()>
-    requires { M.is_of m.now out }
-{
-    let mut out = out;
-    for _ in 0..turns {
-        let inside = m.enter(rt, out);
-        let worked = work(rt);
-        out = m.leave(rt, inside);
-        worked?;
-    }
-    Ok(())
-}
-
-/// Enters, waits on condition 0 with `priority`, `turns` times, and leaves.
-pub fn wait_many<R: Wait, M: Monitor<Counter>>(
-    rt: &R,
-    m: &M,
-    out: M::Out,
-    turns: u64,
-    priority: u64,
-)
+/// Enters, waits on condition 0, `turns` times, and leaves.
+pub fn wait_many<R: Wait, M: Monitor<Counter>>(rt: &R, m: &M, out: M::Out, turns: u64)
     requires { M.is_of m.now out }
 {
     let mut inside = m.enter(rt, out);
     for _ in 0..turns {
-        inside = m.wait(rt, inside, 0, priority);
+        inside = m.wait(rt, inside, 0, 0);
     }
     m.leave(rt, inside);
 }
 
-// Returns true if a process waits on condition 0, and on each other condition below `conditions`.
-fn are_ready<M: Monitor<Counter>>(m: &M, inside: &M::In, conditions: usize) -> bool
-    requires { M.is_of_in m.now inside.now }
-{
-    let lists = m.lists(inside);
-    m.queue(inside, 0) && (1..conditions).all(|c| lists.count(c) > 0)
-}
-
-/// Enters, signals condition 0 if a process waits on each condition below `conditions`, and leaves, until it has
-/// signalled `turns` times.
-pub fn signal_many<R: Wait, M: Monitor<Counter>>(
-    rt: &R,
-    m: &M,
-    out: M::Out,
-    turns: u64,
-    conditions: usize,
-)
+/// Enters, signals condition 0 if a process waits on it, and leaves, until it has signalled `turns` times.
+pub fn signal_many<R: Wait, M: Monitor<Counter>>(rt: &R, m: &M, out: M::Out, turns: u64)
     requires { M.is_of m.now out }
 {
     let (mut out, mut signals) = (out, 0);
@@ -103,39 +48,120 @@ pub fn signal_many<R: Wait, M: Monitor<Counter>>(
             return;
         }
         let inside = m.enter(rt, out);
-        if are_ready(m, &inside, conditions) {
+        let (inside, resumed) = m.signal(rt, inside, 0);
+        out = m.leave(rt, inside);
+        if resumed {
             signals += 1;
-            let (inside, _resumed) = m.signal(rt, inside, 0);
-            out = m.leave(rt, inside);
-        } else {
-            out = m.leave(rt, inside);
         }
     }
     unreachable!()
 }
 
-/// Enters, waits on `condition`, signals the next condition and leaves, `turns` times, as a link of a chain. The link
-/// of the last condition doesn't signal.
+/// Adds one to the counter.
+pub fn count<M: Monitor<Counter>>(m: &M, inside: M::In) -> M::In
+    requires { M.is_of_in m.now inside }
+    ensures { M.is_of_in m.now result }
+{
+    let mut inside = inside;
+    let counter = M::state_mut(&mut inside, m);
+    counter.value = counter.value.wrapping_add(1);
+    inside
+}
+
+// Enters and counts this thread as arrived. If the driver and `waiters` threads have now arrived, signals the driver.
+fn arrive<R: Wait, M: Monitor<Counter>>(rt: &R, m: &M, out: M::Out, waiters: u64) -> M::In
+    requires { M.is_of m.now out }
+    ensures { M.is_of_in m.now result }
+{
+    let inside = count(m, m.enter(rt, out));
+    if m.state(&inside).value <= waiters {
+        return inside;
+    }
+    let (inside, _resumed) = m.signal(rt, inside, DRIVER);
+    inside
+}
+
+/// What a thread of a team with a driver does.
+#[derive(Clone, Copy)]
+pub struct Link {
+    /// The condition on which it waits.
+    pub condition: usize,
+    /// Its priority there: at least 1, since the driver waits with 0.
+    pub priority: u64,
+    /// The condition that it signals then, or `CONDITIONS` if it signals none.
+    pub next: usize,
+}
+
+/// Enters, waits, signals the next condition and leaves, `turns` times, as one of `waiters` threads that have a driver.
+/// The last to arrive signals the driver before it waits.
 pub fn link_many<R: Wait, M: Monitor<Counter>>(
     rt: &R,
     m: &M,
     out: M::Out,
     turns: u64,
-    condition: usize,
+    link: Link,
+    waiters: u64,
 )
     requires of { M.is_of m.now out }
-    requires condition { condition < 8 }
+    requires condition { link.condition < 8 }
 {
     let mut out = out;
     for _ in 0..turns {
-        let inside = m.enter(rt, out);
-        let inside = m.wait(rt, inside, condition, 0);
-        let next = condition + 1;
-        if next < CONDITIONS {
-            let (inside, _resumed) = m.signal(rt, inside, next);
+        let inside = arrive(rt, m, out, waiters);
+        let inside = m.wait(rt, inside, link.condition, link.priority);
+        if link.next < CONDITIONS {
+            let (inside, _resumed) = m.signal(rt, inside, link.next);
             out = m.leave(rt, inside);
         } else {
             out = m.leave(rt, inside);
         }
+    }
+}
+
+// Enters, waits until `waiters` other threads have arrived, and leaves. The last of them has signalled this thread, and
+// waits before this thread can enter again.
+fn await_all<R: Wait, M: Monitor<Counter>>(rt: &R, m: &M, out: M::Out, waiters: u64) -> M::Out
+    requires { M.is_of m.now out }
+    ensures { M.is_of m.now result }
+{
+    let mut inside = count(m, m.enter(rt, out));
+    if m.state(&inside).value <= waiters {
+        inside = m.wait(rt, inside, DRIVER, 0);
+    }
+    M::state_mut(&mut inside, m).value = 0;
+    m.leave(rt, inside)
+}
+
+// Signals condition 0 until no process waits there.
+fn resume_all<R: Wait, M: Monitor<Counter>>(rt: &R, m: &M, inside: M::In) -> M::In
+    requires { M.is_of_in m.now inside }
+    ensures { M.is_of_in m.now result }
+{
+    let mut inside = inside;
+    for _ in rt.forever() {
+        if !m.queue(&inside, 0) {
+            return inside;
+        }
+        let (again, _resumed) = m.signal(rt, inside, 0);
+        inside = again;
+    }
+    unreachable!()
+}
+
+/// Waits until `waiters` other threads wait, and then signals condition 0 until none waits there, `turns` times.
+pub fn drive_many<R: Wait, M: Monitor<Counter>>(
+    rt: &R,
+    m: &M,
+    out: M::Out,
+    turns: u64,
+    waiters: u64,
+)
+    requires { M.is_of m.now out }
+{
+    let mut out = out;
+    for _ in 0..turns {
+        let waited = await_all(rt, m, out, waiters);
+        let inside = m.enter(rt, waited);
+        out = m.leave(rt, resume_all(rt, m, inside));
     }
 }

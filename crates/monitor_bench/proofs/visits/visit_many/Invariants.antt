@@ -1,4 +1,4 @@
-use Rattle.monitor_bench.proofs.turns.stay_many.Given as goal
+use Rattle.monitor_bench.proofs.visits.visit_many.Given as goal
 
 -- the place stays one of the monitor's
 abbrev pub invariant-loop : goal.invariant-loop

@@ -1,25 +1,8 @@
 //! How entering threads sleep, and what wakes them.
 //!
-//! The entrance has one word: `ASLEEP` if an entering thread may sleep, else `AWAKE`. It is apart from the state word;
-//! no contract depends on it.
-//!
-//! - An entering thread E whose attempts fail writes `ASLEEP`, attempts once more, and sleeps only if that fails too,
-//!   and only while the word is `ASLEEP`. To test the word and to fall asleep is one step.
-//! - A thread that frees the monitor first stores `FREE`, then reads the word. If that is `ASLEEP`, it swaps `AWAKE`
-//!   in, and if it swapped `ASLEEP` out it wakes one thread.
-//! - A thread that enters after it wrote `ASLEEP` writes it again if others did so too and aren't inside yet.
-//!
-//! Why no wake-up is lost. All these operations are sequentially consistent. When E's last attempt fails, some place
-//! has the monitor or is owed it. The store that frees it next comes after that attempt, so after E's `ASLEEP`. The
-//! thread that stored then finds `ASLEEP`, or another thread has swapped it out since.
-//!
-//! - The thread that swaps it out wakes a thread W that sleeps. W attempts for a while, or leaves that out. If it gets
-//!   in, it writes `ASLEEP` again if another thread may sleep, and frees the monitor later. If not, it does as E did.
-//! - If no thread sleeps yet, those that were about to sleep find `AWAKE`, and don't. If they find `ASLEEP`, another
-//!   entering thread has written it since, and attempts after that: the same holds of this thread.
-//!
-//! Between the swap and the next `ASLEEP` no thread is woken, so at most one wake-up is under way, however many threads
-//! free the monitor meanwhile.
+//! The entrance has one word, apart from the state word: `ASLEEP` if an entering thread may sleep, else `AWAKE`. No
+//! contract depends on it. docs/WAKING.md has the steps, and why no wake-up is lost. Between the swap of `AWAKE` and the
+//! next `ASLEEP` no thread is woken, so at most one wake-up is under way, however many threads free the monitor.
 use crossbeam_utils::CachePadded;
 use std::sync::Wait;
 use std::sync::atomic::{AtomicU64, Ordering};

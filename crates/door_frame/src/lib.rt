@@ -19,4 +19,3 @@ pub mod slot;
 pub mod status;
 pub mod view;
 pub mod waking;
-pub mod yields;

@@ -2,21 +2,7 @@
 //!
 //! A thread whose turn is near polls for a while, and then sleeps. All others sleep at once. No sleep has a time limit.
 //! Each ticket that is waited for has a word of its own: `ASLEEP` if its thread may sleep, else `AWAKE`. No contract
-//! depends on these words.
-//!
-//! - T, the thread of a ticket, adds itself to a count of sleepers, writes `ASLEEP`, and reads SERVING once more. It
-//!   sleeps only if SERVING isn't its turn, and only while its word is `ASLEEP`: to test the word and to fall asleep is
-//!   one step. When it doesn't sleep any more, T writes `AWAKE` and takes itself from the count.
-//! - A thread that has changed SERVING to T's turn then reads T's word. If it is `ASLEEP`, the thread swaps `AWAKE` in,
-//!   and if that took `ASLEEP` out, wakes T. Two threads change SERVING so. One releases the monitor to T; it reads the
-//!   count first, and no word if that is 0. The other opens the gate again, and wasn't let in: while the gate was shut,
-//!   T didn't enter, and may have gone to sleep. (A place that was let in has the ticket that is served.)
-//!
-//! Why no wake-up is lost. All these operations are sequentially consistent, so they have one order. T sleeps only if
-//! it read SERVING before the change that makes it T's turn. Then it counted itself and wrote `ASLEEP` before the
-//! change. So the thread that made the change finds the count above 0, and finds `ASLEEP`, unless another thread has
-//! swapped `AWAKE` in since. One of the two swaps it in. If T hasn't fallen asleep by then, it doesn't; if it has, that
-//! thread wakes it. T reads SERVING again; if the gate is shut once more, the same holds for the place that opens it.
+//! depends on these words. docs/WAKING.md has the steps, and why no wake-up is lost.
 //!
 //! A thread that serves a ticket also wakes the thread of the ticket `AHEAD` turns later, if it sleeps, so that it is
 //! awake when it is served: that wake-up lasts while others visit. Nothing depends on it. If its turn hasn't come when
@@ -24,12 +10,11 @@
 use crate::door::RawTicketDoor;
 use crate::words::{SERVING, SHUT, TURN};
 use crossbeam_utils::CachePadded;
+use door_frame::polling::POLLS;
 use hoare_law::data::MonitorData;
 use std::sync::Wait;
 use std::sync::atomic::{AtomicU64, Ordering};
 use std::{array, hint};
-
-const POLLS: u32 = 2000; // door_frame's
 
 /// The number of turns before its own at which a thread begins to poll, and at which it is woken if it sleeps. As many
 /// threads may poll at once, beside the thread inside.

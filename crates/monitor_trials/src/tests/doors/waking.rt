@@ -155,11 +155,13 @@ impl<C: CpuClock + Sync> Row<Tally> for EntersLate<'_, C> {
 
 #[test]
 fn who_enters_sleeps_until_the_leave(host: HostRuntime) {
-    let row = EntersLate {
-        clock: &host,
-        is_inside: AtomicBool::new(false),
-    };
-    tally_on(&host, host.alloc(), DoorKind::Baton, &row, 12, &[0, 0]);
+    for kind in DoorKind::BOTH {
+        let row = EntersLate {
+            clock: &host,
+            is_inside: AtomicBool::new(false),
+        };
+        tally_on(&host, host.alloc(), kind, &row, 12, &[0, 0]);
+    }
 }
 
 /// The number of times that places 1 and 2 enter while place 0 is inside. The row's limit of 25 seconds allows an

@@ -110,7 +110,7 @@ impl<D: MonitorData> RawTicketDoor<D> {
     ///
     /// If the threads that are next polled for less, one late thread would send all after it to sleep. Each would then
     /// be woken after the one before it, be late, and send those after it to sleep: this would never end. A thread that
-    /// left out its polls after polls in vain would be late in the same way, so none does.
+    /// left out its polls for a while would be late in the same way, so none does.
     fn poll_for(&self, turn: u64) -> bool {
         for _ in 0..AHEAD * u64::from(POLLS) {
             if self.table.shared.peek(SERVING) == turn {

@@ -4,4 +4,5 @@ mod alone;
 mod stress;
 mod tally;
 mod tickets;
+mod tries;
 mod waking;

@@ -1,7 +1,7 @@
 /* Tests the codes of the monitor's calls that the stress doesn't cause: sizes, alignment, an allocation that fails,
- * texts. Then it tests how a thread sleeps. Each act that leaves the monitor free wakes it, each of several sleepers is
- * woken in turn, it polls first unless its last polls were in vain, it sleeps once for each wait, and it still sleeps if
- * it is cancelled.
+ * texts. Then it tests how a thread sleeps. Each act that leaves the monitor free wakes it, and each of several
+ * sleepers is woken in turn. It leaves out polls after those that missed. It sleeps once for each wait, and it still
+ * sleeps if it is cancelled.
  *
  * The test's own rattle_alloc fails at will, and counts the memory that is kept. counting_port.h counts what the port
  * does. */
@@ -217,8 +217,7 @@ static void meet(unsigned threads) {
     pthread_barrier_destroy(&start);
     IS(zaulinte_free(&m), 0);
 }
-/* a place that polled in vain before it slept leaves out its next 1, 3, 7 polls; once a poll succeeded it leaves out
- * none */
+/* after polls that missed a place leaves out its next 1, 3, 7 polls; after a hit it leaves out none */
 static _Atomic unsigned hints;
 static _Atomic bool is_held;
 void port_hint(void) {

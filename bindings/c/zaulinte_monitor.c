@@ -53,8 +53,8 @@ static bool enters(zaulinte_monitor *m, uint32_t place) {
 }
 static bool is_rung(zaulinte_bell *b) { return atomic_load(&b->word) >= RUNG; }
 /* Polls until the place has entered, after pauses of 1, 2, 4 .. hints, or until it is rung, after each hint. Returns
- * true if so. A place that polled in vain leaves out its next 1, 3, 7 .. at most MOST polls: if the thread for which it
- * waits has no processor, or sleeps, polls only take time. */
+ * true if so. After polls that missed, a place leaves out its next 1, 3, 7 .. at most MOST polls: if the thread for
+ * which it waits has no processor, or sleeps, polls only take time. */
 enum { TO_ENTER, TO_RESUME, MOST = 1023 };
 static bool polls(zaulinte_monitor *m, uint32_t place, int to) {
     zaulinte_patience *p = &m->place[place].patience[to];

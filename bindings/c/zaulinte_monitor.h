@@ -47,7 +47,7 @@ typedef struct zaulinte_bell {
     ZAULINTE_BELL_FIELDS /* the port's */
 } zaulinte_bell;
 
-/* Whether a place polls: its last polls in vain, and how many of the next polls it leaves out. */
+/* The polls of a place: how many missed since the last hit, and how many of the next ones it leaves out. */
 typedef struct zaulinte_patience {
     uint16_t misses, skips;
 } zaulinte_patience;

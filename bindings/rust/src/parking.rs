@@ -20,7 +20,7 @@ const LEFT: u32 = 3;
 
 /// The length of a back-off, in spin hints.
 const BACK_OFF: u32 = 128;
-/// The most polls that a place leaves out after one in vain.
+/// The most polls that a place leaves out after one that missed.
 const MOST: u32 = 1023;
 
 /// How a place released the monitor.
@@ -75,13 +75,13 @@ impl<P: Port> Bell<P> {
     }
 }
 
-/// Whether a place polls, to enter or to resume. After polls in vain it leaves out its next 1, 3, 7 .. at most `MOST`
-/// polls: if the thread that it waits for has no processor, or sleeps, polls only take time.
+/// The polls of a place, to enter or to resume. After polls that missed, a place leaves out its next 1, 3, 7 .. at most
+/// `MOST` polls: if the thread for which it waits has no processor, or sleeps, polls only take time.
 #[derive(Default)]
 pub(crate) struct Patience {
-    /// The polls in vain since the last that succeeded, at most those that make `skips` `MOST`.
+    /// The polls that missed since the last hit, at most 10: then `skips` is `MOST`.
     misses: u32,
-    /// The polls that are still left out.
+    /// How many of the next polls are left out.
     skips: u32,
 }
 

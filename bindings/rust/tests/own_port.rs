@@ -173,7 +173,7 @@ fn threads_that_sleep_at_the_entrance_wake_each_other() {
     let asleep = Arc::new(AtomicU32::new(0));
     let mut places = monitor_of(SLEEPERS + 1, || Sleeper { asleep: asleep.clone(), wakes: true, ..Sleeper::default() });
     let mut here = places.pop().unwrap();
-    for _ in 0..20 {
+    for _ in 0..5 {
         asleep.store(0, SeqCst);
         let inside = here.enter().unwrap();
         let (tells, is_told) = mpsc::channel();
@@ -200,7 +200,7 @@ fn threads_that_meet_at_the_entrance_all_enter() {
         for mut place in monitor_of(threads, || Sleeper { wakes: true, ..Sleeper::default() }) {
             let (start, tells) = (start.clone(), tells.clone());
             thread::spawn(move || {
-                for _ in 0..300 {
+                for _ in 0..100 {
                     start.wait();
                     drop(place.enter().unwrap());
                 }

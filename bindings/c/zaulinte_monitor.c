@@ -5,6 +5,12 @@
 #include "zaulinte_port.h"
 
 const char ZAULINTE_BUILD = 0;
+/* Of a function that isn't inlined, so that a call that doesn't block stays short. */
+#ifdef __GNUC__
+#define APART __attribute__((noinline)) static
+#else
+#define APART static
+#endif
 /* The word of a place's bell: AWAKE, ASLEEP, or rung. It is rung with RUNG by a thread that waits or signals, and with
  * LEFT by a thread that left the monitor. The word of the entrance: ASLEEP or AWAKE. */
 enum { AWAKE, ASLEEP, RUNG, LEFT, NOBODY = ZAULINTE_DOOR_NOBODY };
@@ -56,7 +62,7 @@ static bool is_rung(zaulinte_bell *b) { return atomic_load(&b->word) >= RUNG; }
  * true if so. After polls that missed, a place leaves out its next 1, 3, 7 .. at most MOST polls: if the thread for
  * which it waits has no processor, or sleeps, polls only take time. */
 enum { TO_ENTER, TO_RESUME, MOST = 1023 };
-static bool polls(zaulinte_monitor *m, uint32_t place, int to) {
+APART bool polls(zaulinte_monitor *m, uint32_t place, int to) {
     zaulinte_patience *p = &m->place[place].patience[to];
     bool is_hit = false;
     if (ZAULINTE_POLLS == 0) return false;
@@ -73,7 +79,7 @@ static bool polls(zaulinte_monitor *m, uint32_t place, int to) {
 }
 static bool tries(zaulinte_monitor *m, uint32_t place) { return enters(m, place) || polls(m, place, TO_ENTER); }
 /* Enters, and sleeps while the monitor isn't free. */
-static void sleeps(zaulinte_monitor *m, uint32_t place) {
+APART void sleeps(zaulinte_monitor *m, uint32_t place) {
     bool is_in = false;
     atomic_fetch_add(&m->sleepers, 1);
     while (!is_in) {

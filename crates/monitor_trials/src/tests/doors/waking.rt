@@ -293,7 +293,7 @@ fn a_parked_thread_enters(host: HostRuntime) {
 const VISITORS: usize = 8;
 
 /// The number of visits of each place that visits.
-const VISITS: u64 = 2000;
+const VISITS: u64 = 500;
 
 // Keeps a processor busy until all places that visit are done.
 fn spin_until_gone(gone: &AtomicUsize) {

@@ -43,7 +43,7 @@ impl<D: MonitorData> RawBatonDoor<D> {
         false
     }
 
-    /// Attempts to enter for a while, unless `patience` leaves that out. Returns true if the place is in.
+    /// Attempts to enter for a while, or once if `patience` leaves the others out. Returns true if the place is in.
     fn try_or_skip(&self, seat: &mut DoorSeat<D>, patience: &Patience) -> bool
         requires table { seat.old.table_id ≡ self.now.table }
         requires outside { IsOutside seat.old.me }
@@ -52,15 +52,14 @@ impl<D: MonitorData> RawBatonDoor<D> {
         ensures let_in { result ≡ true → IsAdmitted D.rest D.ready seat.old.me seat.new.me }
     {
         if !patience.may_poll() {
-            return false;
+            return try_in(&self.table, seat);
         }
         let is_in = self.try_a_while(seat);
         patience.has_polled(is_in);
         is_in
     }
 
-    /// Attempts to enter until the place is in. Sleeps at the entrance after attempts for a while that failed or were
-    /// left out.
+    /// Attempts to enter until the place is in. Sleeps at the entrance after attempts for a while, or one, that failed.
     #[inline(never)] // apart, so that an enter stays small
     fn keep_trying<R: Wait>(&self, rt: &R, seat: &mut DoorSeat<D>, patience: &Patience)
         requires table { seat.old.table_id ≡ self.now.table }
@@ -77,7 +76,7 @@ impl<D: MonitorData> RawBatonDoor<D> {
     }
 
     /// Says that the thread may sleep, attempts to enter, and sleeps, until the place is in. After each sleep the
-    /// thread attempts for a while, unless it leaves that out.
+    /// thread attempts for a while, or once.
     fn sleep_and_try<R: Wait>(&self, rt: &R, seat: &mut DoorSeat<D>, patience: &Patience)
         requires table { seat.old.table_id ≡ self.now.table }
         requires outside { IsOutside seat.old.me }

@@ -7,6 +7,9 @@
 #define COUNTED "zaulinte_port_condvar.h"
 #endif
 #endif
+#ifndef ZAULINTE_POLLS
+#define ZAULINTE_POLLS 2000 /* what zaulinte_port.h has: the test asks for it too */
+#endif
 #ifndef ZAULINTE_PORT_CODE
 
 #include COUNTED

@@ -200,7 +200,7 @@ fn threads_that_meet_at_the_entrance_all_enter() {
         for mut place in monitor_of(threads, || Sleeper { wakes: true, ..Sleeper::default() }) {
             let (start, tells) = (start.clone(), tells.clone());
             thread::spawn(move || {
-                for _ in 0..100 {
+                for _ in 0..50 {
                     start.wait();
                     drop(place.enter().unwrap());
                 }

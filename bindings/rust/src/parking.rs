@@ -214,3 +214,30 @@ impl<P: Port> Parking<P> {
 pub(crate) fn back_off() {
     (0..BACK_OFF).for_each(|_| spin_loop());
 }
+
+#[cfg(test)]
+mod tests {
+    use super::Patience;
+
+    /// Returns how many polls `patience` leaves out before the next one, which hits or misses.
+    fn left_out_before(is_hit: bool, patience: &mut Patience) -> usize {
+        let mut has_polled = false;
+        let mut polls_once = || {
+            patience.polls(|| {
+                has_polled = true;
+                is_hit
+            });
+            has_polled
+        };
+        (0..5000).take_while(|_| !polls_once()).count()
+    }
+
+    #[test]
+    fn a_place_leaves_out_more_polls_after_each_miss_and_none_after_a_hit() {
+        let mut patience = Patience::default();
+        let misses = [0, 1, 3, 7, 15, 31, 63, 127, 255, 511, 1023, 1023];
+        assert_eq!(misses.map(|_| left_out_before(false, &mut patience)), misses);
+        let then = [true, true, false, true, false];
+        assert_eq!(then.map(|is_hit| left_out_before(is_hit, &mut patience)), [1023, 0, 0, 1, 0]);
+    }
+}

@@ -4,9 +4,9 @@
 //! Each ticket that is waited for has a word of its own: `ASLEEP` if its thread may sleep, else `AWAKE`. No contract
 //! depends on these words. docs/WAKING.md has the steps, and why no wake-up is lost.
 //!
-//! A thread that serves a ticket also wakes the thread of the ticket `AHEAD` turns later, if it sleeps, so that it is
-//! awake when it is served: that wake-up lasts while others visit. Nothing depends on it. If its turn hasn't come when
-//! it has polled, the thread sleeps again, and is woken when it is served.
+//! A thread that serves a ticket also wakes the thread that is then next, if it sleeps: that wake-up lasts while the
+//! served thread visits. Nothing depends on it. If its turn hasn't come when it has polled, the thread sleeps again, and
+//! is woken when it is served.
 use crate::door::RawTicketDoor;
 use crate::words::{SERVING, SHUT, TURN};
 use crossbeam_utils::CachePadded;
@@ -16,9 +16,14 @@ use std::sync::Wait;
 use std::sync::atomic::{AtomicU64, Ordering};
 use std::{array, hint};
 
-/// The number of turns before its own at which a thread begins to poll, and at which it is woken if it sleeps. As many
-/// threads may poll at once, beside the thread inside.
+/// The number of turns before its own at which a thread begins to poll. As many threads may poll at once, beside the
+/// thread inside.
 const AHEAD: u64 = 3;
+
+/// The number of turns after which a thread sleeps at once, if it isn't next, and no thread slept meanwhile. Threads
+/// that only poll keep their cores. A thread that has left, and loses its core to one of them, would get none for its
+/// next ticket until a time slice ends, and others would visit tens of thousands of times.
+const ALL_AWAKE: u64 = 64;
 
 /// The number of words. The tickets that are waited for are at most 64 in a row, one for each place, so no two of them
 /// have the same word. That holds also if their numbers wrap, since 64 divides 2^63, the number of turns.
@@ -36,6 +41,8 @@ pub(crate) struct WaitingRoom {
     /// The number of threads that sleep, are about to sleep, or were woken. A thread that releases the monitor reads
     /// only this if it is 0.
     sleepers: AtomicU64,
+    /// What SERVING was when a thread last went to sleep.
+    slept: AtomicU64,
     /// The word of a ticket is at its number modulo `WORDS`.
     words: [AtomicU64; WORDS],
 }
@@ -45,6 +52,7 @@ impl WaitingRoom {
     pub(crate) fn new() -> CachePadded<WaitingRoom> {
         CachePadded::new(WaitingRoom {
             sleepers: AtomicU64::new(0),
+            slept: AtomicU64::new(0),
             words: array::from_fn(|_| AtomicU64::new(AWAKE)),
         })
     }
@@ -73,10 +81,19 @@ impl WaitingRoom {
         self.sleepers.load(Ordering::SeqCst) == 0
     }
 
-    /// Sleeps until the thread with `turn`, which is the caller, is woken, unless it was since `announce`. May return
-    /// early.
-    fn sleep<R: Wait>(&self, rt: &R, turn: u64) {
+    /// Sleeps until the thread with `turn`, which is the caller, is woken, unless it was since `announce`. SERVING was
+    /// `serving` since. May return early.
+    fn sleep<R: Wait>(&self, rt: &R, turn: u64, serving: u64) {
+        self.slept.store(serving, Ordering::Relaxed);
         self.word(turn).park(rt, ASLEEP as u32);
+    }
+
+    /// Returns true if the thread with `turn` is to poll, since it is next, or near and a thread slept recently.
+    /// SERVING is `serving`.
+    fn is_to_poll(&self, turn: u64, serving: u64) -> bool {
+        let ahead = turn.wrapping_add(SHUT).wrapping_sub(serving) / TURN;
+        let awake = turn.wrapping_sub(self.slept.load(Ordering::Relaxed)) / TURN;
+        ahead <= 1 || ahead <= AHEAD && awake <= ALL_AWAKE
     }
 
     /// Wakes the thread with `turn`, if it may sleep.
@@ -88,31 +105,28 @@ impl WaitingRoom {
     }
 }
 
-/// Returns the turn `AHEAD` turns after `turn`.
-fn later(turn: u64) -> u64 {
-    turn.wrapping_add(AHEAD * TURN)
-}
-
 impl<D: MonitorData> RawTicketDoor<D> {
     /// Polls for a while whether `turn` has come, if it is near; then sleeps. May return before the turn has come.
     pub(crate) fn wait_for<R: Wait>(&self, rt: &R, turn: u64) {
-        if self.turns_ahead(turn) <= AHEAD && self.poll_for(turn) {
+        let serving = self.table.shared.peek(SERVING);
+        if self.waiting_room.is_to_poll(turn, serving) && self.poll_for(turn) {
             return;
         }
         self.waiting_room.announce(turn);
-        if self.table.shared.peek(SERVING) != turn {
-            self.waiting_room.sleep(rt, turn);
+        let serving = self.table.shared.peek(SERVING);
+        if serving != turn {
+            self.waiting_room.sleep(rt, turn, serving);
         }
         self.waiting_room.depart(turn);
     }
 
-    /// Polls SERVING, for longer than the wake-ups of `AHEAD` threads take together. Returns true if it reached `turn`.
+    /// Polls SERVING, for longer than a wake-up takes. Returns true if it reached `turn`.
     ///
-    /// If the threads that are next polled for less, one late thread would send all after it to sleep. Each would then
-    /// be woken after the one before it, be late, and send those after it to sleep: this would never end. A thread that
-    /// left out its polls for a while would be late in the same way, so none does.
+    /// If a thread that is next polled for less, one late thread would send it to sleep. It would then be late itself,
+    /// and send the one after it to sleep: this would never end. A thread that left out its polls for a while would be
+    /// late in the same way, so the next one always polls.
     fn poll_for(&self, turn: u64) -> bool {
-        for _ in 0..AHEAD * u64::from(POLLS) {
+        for _ in 0..POLLS {
             if self.table.shared.peek(SERVING) == turn {
                 return true;
             }
@@ -121,14 +135,7 @@ impl<D: MonitorData> RawTicketDoor<D> {
         false
     }
 
-    /// Returns the number of turns before `turn`; 0 if it is served, also while the gate is shut.
-    fn turns_ahead(&self, turn: u64) -> u64 {
-        let serving = self.table.shared.peek(SERVING);
-        turn.wrapping_add(SHUT).wrapping_sub(serving) / TURN
-    }
-
-    /// Wakes the thread whose ticket is served now, which is `turn`, and the one whose turn comes `AHEAD` turns later,
-    /// if they may sleep.
+    /// Wakes the thread whose ticket is served now, which is `turn`, and the one that is next, if they may sleep.
     #[inline]
     pub(crate) fn wake_next(&self, turn: u64) {
         if !self.waiting_room.is_empty() {
@@ -136,11 +143,11 @@ impl<D: MonitorData> RawTicketDoor<D> {
         }
     }
 
-    /// Wakes the threads with `turn` and with the turn `AHEAD` turns later, if they may sleep.
+    /// Wakes the threads with `turn` and with the turn after it, if they may sleep.
     #[inline(never)] // apart, so that a plain leave stays small
     fn wake_both(&self, turn: u64) {
         self.waiting_room.wake(turn);
-        self.waiting_room.wake(later(turn));
+        self.waiting_room.wake(turn.wrapping_add(TURN));
     }
 
     /// Wakes the thread whose ticket is served now, if it may sleep. The caller has opened the gate.

@@ -5,39 +5,24 @@
 //!
 //! *Backing off.* If T leaves and hands off the monitor to W, W finishes its visit and usually enters again before T
 //! does. What W waits for is then mostly false, as T would have to make it true, and W waits: every visit costs a
-//! hand-off. So W, after it has freed the monitor, polls the state word for a short time. If it sees that another
-//! thread has entered (not `FREE`), W spins for a while before its call returns.
+//! hand-off. So W, after it has freed the monitor, spins for a while before its call returns.
 use crate::door::RawBatonDoor;
-use crate::word::{DOOR, FREE};
 use door_frame::polling::pause;
 use door_frame::release::Release;
 use hoare_law::data::MonitorData;
-use std::hint;
 
-/// The length of a back-off in spin hints: half a microsecond, less than a hand-off takes. Before a back-off the thread
-/// polls the state word at most `BACK_OFF` times, to see if another thread enters.
+/// The length of a back-off in spin hints: half a microsecond, less than a hand-off takes.
 const BACK_OFF: u32 = 128;
 
 impl<D: MonitorData> RawBatonDoor<D> {
-    /// Helps entering threads, after the caller has freed the monitor: wakes one of them, if one may sleep. Then backs
-    /// off if `backs_off` is true and the caller sees that another thread has entered.
+    /// Helps entering threads, after the caller has freed the monitor: wakes one of them, if one may sleep, and backs
+    /// off if `backs_off` is true.
     #[inline(never)] // apart, so that a plain leave stays small
     pub(crate) fn help_others(&self, backs_off: bool) {
         self.entrance.wake_one();
-        if backs_off && self.sees_another() {
+        if backs_off {
             pause(BACK_OFF);
         }
-    }
-
-    /// Polls the state word at most `BACK_OFF` times. Returns true as soon as it isn't `FREE`.
-    fn sees_another(&self) -> bool {
-        for _ in 0..BACK_OFF {
-            if self.table.shared.peek(DOOR) != FREE {
-                return true;
-            }
-            hint::spin_loop();
-        }
-        false
     }
 }
 

@@ -120,13 +120,13 @@ impl<D: MonitorData> RawTicketDoor<D> {
         self.waiting_room.depart(turn);
     }
 
-    /// Polls SERVING, for longer than a wake-up takes. Returns true if it reached `turn`.
+    /// Polls SERVING, for longer than the wake-ups of `AHEAD` threads take together. Returns true if it reached `turn`.
     ///
-    /// If a thread that is next polled for less, one late thread would send it to sleep. It would then be late itself,
-    /// and send the one after it to sleep: this would never end. A thread that left out its polls for a while would be
-    /// late in the same way, so the next one always polls.
+    /// If the threads that are near polled for less, one late thread would send those after it to sleep. Each would
+    /// then be late itself, and send others to sleep: this would never end. A thread that left out its polls for a
+    /// while would be late in the same way, so the next one always polls.
     fn poll_for(&self, turn: u64) -> bool {
-        for _ in 0..POLLS {
+        for _ in 0..AHEAD * u64::from(POLLS) {
             if self.table.shared.peek(SERVING) == turn {
                 return true;
             }

@@ -61,7 +61,7 @@ static bool is_rung(zaulinte_bell *b) { return atomic_load(&b->word) >= RUNG; }
 /* Polls until the place has entered, after pauses of 1, 2, 4 .. hints, or until it is rung, after each hint. Returns
  * true if so. After polls that missed, a place leaves out its next 1, 3, 7 .. at most MOST polls: if the thread for
  * which it waits has no processor, or sleeps, polls only take time. */
-enum { TO_ENTER, TO_RESUME, MOST = 1023 };
+enum { TO_ENTER, TO_RESUME, MOST = 255 };
 APART bool polls(zaulinte_monitor *m, uint32_t place, int to) {
     zaulinte_patience *p = &m->place[place].patience[to];
     bool is_hit = false;

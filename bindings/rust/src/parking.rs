@@ -21,7 +21,7 @@ const LEFT: u32 = 3;
 /// The length of a back-off, in spin hints.
 const BACK_OFF: u32 = 128;
 /// The most polls that a place leaves out after one that missed.
-const MOST: u32 = 1023;
+const MOST: u32 = 255;
 
 /// How a place released the monitor.
 #[derive(Clone, Copy, PartialEq)]
@@ -79,7 +79,7 @@ impl<P: Port> Bell<P> {
 /// `MOST` polls: if the thread for which it waits has no processor, or sleeps, polls only take time.
 #[derive(Default)]
 pub(crate) struct Patience {
-    /// The polls that missed since the last hit, at most 10: then `skips` is `MOST`.
+    /// The polls that missed since the last hit, at most 8: then `skips` is `MOST`.
     misses: u32,
     /// How many of the next polls are left out.
     skips: u32,
@@ -235,9 +235,9 @@ mod tests {
     #[test]
     fn a_place_leaves_out_more_polls_after_each_miss_and_none_after_a_hit() {
         let mut patience = Patience::default();
-        let misses = [0, 1, 3, 7, 15, 31, 63, 127, 255, 511, 1023, 1023];
+        let misses = [0, 1, 3, 7, 15, 31, 63, 127, 255, 255];
         assert_eq!(misses.map(|_| left_out_before(false, &mut patience)), misses);
         let then = [true, true, false, true, false];
-        assert_eq!(then.map(|is_hit| left_out_before(is_hit, &mut patience)), [1023, 0, 0, 1, 0]);
+        assert_eq!(then.map(|is_hit| left_out_before(is_hit, &mut patience)), [255, 0, 0, 1, 0]);
     }
 }

@@ -51,7 +51,7 @@ use core::sync::atomic::AtomicU32;
 pub unsafe trait Port: Send + Sync {
     /// For how many spin hints a thread polls before it sleeps: its place's own word if the place is away; an entering
     /// thread tries again after 1, 2, 4 .. hints, up to so many in one pause. More than a wake-up takes. After polls
-    /// that missed, a place leaves out its next ones: first 1, at most 1023. 0: no thread polls.
+    /// that missed, a place leaves out its next ones: first 1, at most 255. 0: no thread polls.
     const POLLS: u32 = 2000;
 
     /// Blocks the calling thread while `word` has the value `is`. For [`wake_one`](Port::wake_one) the test and the

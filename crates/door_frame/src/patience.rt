@@ -5,7 +5,7 @@ use std::sync::atomic::{AtomicU16, Ordering};
 
 /// A place leaves out at most this many polls one after another, so that a place whose polls would be hits again finds
 /// this out.
-const MOST: u16 = 1023;
+const MOST: u16 = 255;
 
 /// What a place knows of its last polls. Performance only; not part of any contract. Only the thread that has the place
 /// uses it.

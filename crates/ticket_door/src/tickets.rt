@@ -20,6 +20,7 @@ use crate::rule::{Counting, PollTicket, TakeTicket};
 use crate::words::{NEXT, SERVING, served_as};
 use door_frame::calls::{self, enter_with};
 use door_frame::guarded::GuardedBox;
+use door_frame::patience::Patience;
 use door_frame::seat_steps::DoorSeat;
 use door_frame::slot::take_guarded;
 use hoare_law::data::MonitorData;
@@ -64,6 +65,7 @@ impl<D: MonitorData> RawTicketDoor<D> {
         seat: &mut DoorSeat<D>,
         place: usize,
         ticket: u64,
+        patience: &Patience,
     )
         requires table { seat.old.table_id ≡ self.now.door.table }
         requires first { self.now.first ≡ J.first }
@@ -77,7 +79,7 @@ impl<D: MonitorData> RawTicketDoor<D> {
             if self.is_served::<J>(seat, place, ticket) {
                 return;
             }
-            self.wait_for(rt, turn);
+            self.wait_for(rt, turn, patience);
         }
         unreachable!()
     }
@@ -91,6 +93,7 @@ impl<D: MonitorData> RawTicketDoor<D> {
         seat: &mut DoorSeat<D>,
         place: usize,
         ticket: u64,
+        patience: &Patience,
     ) -> GuardedBox<D>
         requires table { seat.old.table_id ≡ self.now.door.table }
         requires first { self.now.first ≡ J.first }
@@ -104,7 +107,7 @@ impl<D: MonitorData> RawTicketDoor<D> {
         if self.is_served::<J>(seat, place, ticket) {
             return take_guarded(&self.table, seat);
         }
-        self.keep_polling::<J, R>(rt, seat, place, ticket);
+        self.keep_polling::<J, R>(rt, seat, place, ticket, patience);
         take_guarded(&self.table, seat)
     }
 
@@ -145,7 +148,7 @@ impl<D: MonitorData> RawTicketDoor<D> {
             sleeper,
             ticket,
         } = asked;
-        let guarded = self.served::<Brand, R>(rt, &mut seat, place, ticket);
+        let guarded = self.served::<Brand, R>(rt, &mut seat, place, ticket, &sleeper.to_enter);
         enter_with(seat, place, sleeper, guarded)
     }
 

@@ -10,6 +10,7 @@
 use crate::door::RawTicketDoor;
 use crate::words::{SERVING, SHUT, TURN};
 use crossbeam_utils::CachePadded;
+use door_frame::patience::Patience;
 use door_frame::polling::POLLS;
 use hoare_law::data::MonitorData;
 use std::sync::Wait;
@@ -106,10 +107,11 @@ impl WaitingRoom {
 }
 
 impl<D: MonitorData> RawTicketDoor<D> {
-    /// Polls for a while whether `turn` has come, if it is near; then sleeps. May return before the turn has come.
-    pub(crate) fn wait_for<R: Wait>(&self, rt: &R, turn: u64) {
+    /// Polls for a while whether `turn` has come, if it is near, unless `patience` leaves that out; then sleeps. May
+    /// return before the turn has come.
+    pub(crate) fn wait_for<R: Wait>(&self, rt: &R, turn: u64, patience: &Patience) {
         let serving = self.table.shared.peek(SERVING);
-        if self.waiting_room.is_to_poll(turn, serving) && self.poll_for(turn) {
+        if self.waiting_room.is_to_poll(turn, serving) && self.poll_or_skip(turn, patience) {
             return;
         }
         self.waiting_room.announce(turn);
@@ -120,13 +122,19 @@ impl<D: MonitorData> RawTicketDoor<D> {
         self.waiting_room.depart(turn);
     }
 
-    /// Polls SERVING, for longer than the wake-ups of `AHEAD` threads take together. Returns true if it reached `turn`.
-    ///
-    /// If the threads that are near polled for less, one late thread would send those after it to sleep. Each would
-    /// then be late itself, and send others to sleep: this would never end. A thread that left out its polls for a
-    /// while would be late in the same way, so the next one always polls.
+    /// Polls SERVING for a while, unless `patience` leaves that out. Returns true if it reached `turn`.
+    fn poll_or_skip(&self, turn: u64, patience: &Patience) -> bool {
+        if !patience.may_poll() {
+            return false;
+        }
+        let is_hit = self.poll_for(turn);
+        patience.has_polled(is_hit);
+        is_hit
+    }
+
+    /// Polls SERVING, for longer than a wake-up takes. Returns true if it reached `turn`.
     fn poll_for(&self, turn: u64) -> bool {
-        for _ in 0..AHEAD * u64::from(POLLS) {
+        for _ in 0..POLLS {
             if self.table.shared.peek(SERVING) == turn {
                 return true;
             }

@@ -1,15 +1,20 @@
-/* zaulinte_checks.h: the part of zaulinte_monitor.c that tests what holds of the data (`zaulinte_check`), in a build
- * with ZAULINTE_CHECKS. In any other build each function does nothing. NOT PROVED. */
+/* zaulinte_checks.h: the part of zaulinte_monitor.c that tests what its caller owes, in a build with ZAULINTE_CHECKS:
+ * what holds of the data (`zaulinte_check`), that a thread is inside by one place at a time, and that the monitor isn't
+ * a copy. In any other build each function does nothing. NOT PROVED. */
 #ifdef ZAULINTE_CHECKS
-#include <inttypes.h>
-#include <stdio.h>
-#include <stdlib.h>
+/* The file and the line of the thread's call. */
+static _Thread_local const char *file;
+static _Thread_local int line;
+void zaulinte_at(const char *called_file, int called_line) { file = called_file, line = called_line; }
 
+/* Ends the program by a line that says where and what, and by a dump. */
+#define FAIL(m, ...) (print_where(m), fprintf(stderr, __VA_ARGS__), fputc('\n', stderr), zaulinte_dump(m), abort())
+static void print_where(zaulinte_monitor *m) {
+    if (file) fprintf(stderr, "%s:%d: ", file, line);
+    fprintf(stderr, "zaulinte: %s%s", m->name ? m->name : "", m->name ? ": " : "");
+}
 /* The place inside tests inv and rest, before a step that releases the monitor. The place that was resumed tests ready,
  * after its step. */
-static void make_checks(zaulinte_monitor *m, uint64_t conditions, uint64_t mesa) {
-    m->conditions = (uint32_t)conditions, m->hoare = (uint32_t)(conditions - mesa);
-}
 void zaulinte_check(zaulinte_monitor *m, zaulinte_inv inv, zaulinte_rest rest, zaulinte_ready ready, void *context) {
     m->inv = inv, m->rest = rest, m->ready = ready, m->context = context;
 }
@@ -21,34 +26,29 @@ static zaulinte_waiting waiting(zaulinte_monitor *m, uint32_t place) {
     }
     return w;
 }
-static void test_inv(zaulinte_monitor *m, uint32_t place, const char *act) {
+static void test_inv(zaulinte_monitor *m, uint32_t place, const char *act, const char *on) {
     if (!m->inv || m->inv(m->context)) return;
-    fprintf(stderr, "zaulinte: inv doesn't hold when place %" PRIu32 " %s\n", place, act);
-    abort();
+    FAIL(m, "inv doesn't hold when place %" PRIu32 " %s%s", place, act, on);
 }
-static void test_rest(zaulinte_monitor *m, uint32_t place, const char *act, zaulinte_waiting w) {
+static void test_rest(zaulinte_monitor *m, uint32_t place, const char *act, const char *on, zaulinte_waiting w) {
     if (!m->rest || m->rest(m->context, &w)) return;
-    fprintf(stderr, "zaulinte: rest doesn't hold when place %" PRIu32 " %s\n", place, act);
-    abort();
+    FAIL(m, "rest doesn't hold when place %" PRIu32 " %s%s", place, act, on);
 }
 static void check_leave(zaulinte_monitor *m, uint32_t place) {
-    test_inv(m, place, "leaves");
-    test_rest(m, place, "leaves", waiting(m, place));
+    test_inv(m, place, "leaves", "");
+    test_rest(m, place, "leaves", "", waiting(m, place));
 }
 static void check_wait(zaulinte_monitor *m, uint32_t place, uint32_t c, uint64_t priority) {
     if (c >= m->conditions) return;
-    char act[32];
-    snprintf(act, sizeof act, "waits on condition %" PRIu32, c);
+    condition_name name = name_of(m, c);
     zaulinte_waiting w = waiting(m, place);
     if (!w.count[c]++ || priority < w.first[c]) w.first[c] = priority;
-    test_inv(m, place, act);
-    test_rest(m, place, act, w);
+    test_inv(m, place, "waits on ", name.text);
+    test_rest(m, place, "waits on ", name.text, w);
 }
 static void check_signal(zaulinte_monitor *m, uint32_t place, uint32_t c) {
     if (c >= m->hoare || zaulinte_door_queue(at(m, place), c) != 1) return;
-    char act[32];
-    snprintf(act, sizeof act, "signals condition %" PRIu32, c);
-    test_inv(m, place, act);
+    test_inv(m, place, "signals ", name_of(m, c).text);
     m->signaller = place;
 }
 static void check_signal_leave(zaulinte_monitor *m, uint32_t place, uint32_t c) {
@@ -60,17 +60,28 @@ static void check_ready(zaulinte_monitor *m, uint32_t place, uint32_t c, uint64_
     if (c >= m->hoare || !m->ready) return;
     zaulinte_waiting w = waiting(m, place);
     if (m->ready(m->context, c, priority, &w)) return;
-    fprintf(stderr, "zaulinte: ready doesn't hold when place %" PRIu32 " signalled condition %" PRIu32
-            " and place %" PRIu32 " resumes\n", m->signaller, c, place);
-    abort();
+    FAIL(m, "ready doesn't hold when place %" PRIu32 " signalled %s and place %" PRIu32 " resumes", m->signaller,
+         name_of(m, c).text, place);
+}
+static void check_enter(zaulinte_monitor *m, uint32_t place) {
+    for (uint32_t k = 0; k < m->places; k++) {
+        if (k == place || NOTED(m->place[k].thread) != port_thread()) continue;
+        FAIL(m, "place %" PRIu32 " enters, but its thread is inside by place %" PRIu32, place, k);
+    }
+}
+static void note_address(zaulinte_monitor *m) { m->self = m; }
+static void check_address(zaulinte_monitor *m) {
+    if (m->places && m->self != m) FAIL(m, "this monitor is a copy of that at %p", (void *)m->self);
 }
 #else
-#define make_checks(m, conditions, mesa) ((void)(m))
 #define check_leave(m, place) ((void)(m))
 #define check_wait(m, place, condition, priority) ((void)(m))
 #define check_signal(m, place, condition) ((void)(m))
 #define check_signal_leave(m, place, condition) ((void)(m))
 #define check_ready(m, place, condition, priority) ((void)(m))
+#define check_enter(m, place) ((void)(m))
+#define note_address(m) ((void)(m))
+#define check_address(m) ((void)(m))
 void zaulinte_check(zaulinte_monitor *m, zaulinte_inv inv, zaulinte_rest rest, zaulinte_ready ready, void *context) {
     (void)m, (void)inv, (void)rest, (void)ready, (void)context;
 }

@@ -69,8 +69,9 @@ uint64_t zaulinte_door_make(zaulinte_door *door, uint64_t places, uint64_t condi
 /* Gives a place out into `place`, for a thread of its own, and returns its number, below 64: the number by which an act
  * names this place as the one to wake. If no place is in hand, the function first collects. The numbers are places - 1,
  * .., 0; once a place was given back, or an allocation failed here, each is any number that isn't out. Refused: 108
- * `place` holds a place already, 107 `door` holds no door, 114 all places are taken, 111 an allocation failed (the
- * place goes back to its door: nothing is lost). */
+ * `place` holds a place already, 107 `door` holds no door, 114 all places are taken, 111 an allocation failed. Then
+ * the place goes back to its door, and nothing is lost; but `close` is refused until `collect`, or the next `give_out`,
+ * has taken it in hand again. */
 uint64_t zaulinte_door_give_out(zaulinte_door *door, zaulinte_door_place *place);
 /* Gives the place back to its door, and returns 0: `place` then holds nothing. Refused: 107 `place` holds nothing, 103
  * the place isn't outside, 102 another thread has the place's slot in hand at this moment (try again). */

@@ -1,5 +1,6 @@
 /* A running monitor on the proved door: which thread sleeps, and which thread is woken. NOT PROVED, tested.
  * docs/WAKING.md argues why no wake-up is lost. */
+#define ZAULINTE_MONITOR_CODE
 #include "zaulinte_monitor.h"
 #define ZAULINTE_PORT_CODE
 #include "zaulinte_port.h"
@@ -15,13 +16,22 @@ const char ZAULINTE_BUILD = 0;
  * LEFT by a thread that left the monitor. The word of the entrance: ASLEEP or AWAKE. */
 enum { AWAKE, ASLEEP, RUNG, LEFT, NOBODY = ZAULINTE_DOOR_NOBODY };
 static zaulinte_door_place *at(zaulinte_monitor *m, uint32_t place) { return &m->place[place].handle; }
+static bool is_rung(zaulinte_bell *b) { return atomic_load(&b->word) >= RUNG; }
+#include "zaulinte_dump.h"
 #include "zaulinte_checks.h"
+static bool has_threads(zaulinte_monitor *m) {
+    for (uint32_t k = 0; k < m->places; k++)
+        if (m->place[k].thread) return true;
+    return false;
+}
+#include "zaulinte_record.h"
 
 /* Claims a place that is outside for the calling thread. Until `unclaim` only that thread makes steps with it, so two
  * threads never do at once. */
 static uint64_t claim(zaulinte_monitor *m, uint32_t place) {
     uint32_t places = m->places;
     uintptr_t none = 0;
+    check_address(m);
     if (place >= places) return places || place >= 64 ? ZAULINTE_NO_PLACE : ZAULINTE_NO_BOOK;
     bool is_claimed = atomic_compare_exchange_strong(&m->place[place].thread, &none, port_thread());
     return is_claimed ? 0 : ZAULINTE_NOT_OUTSIDE;
@@ -35,7 +45,6 @@ static uint64_t may_act(zaulinte_monitor *m, uint32_t place) {
     if (place >= 64) return ZAULINTE_NO_PLACE;
     uintptr_t thread = atomic_load_explicit(&m->place[place].thread, memory_order_relaxed);
     if (thread != port_thread()) return thread ? ZAULINTE_NOT_OUTSIDE : ZAULINTE_NOT_INSIDE;
-    visit_ends(m);
     return 0;
 }
 /* Rings the place that has the monitor next with `how`, and wakes its thread. If no place has it (`next` is NOBODY),
@@ -57,7 +66,6 @@ static bool enters(zaulinte_monitor *m, uint32_t place) {
     visit_begins(m);
     return true;
 }
-static bool is_rung(zaulinte_bell *b) { return atomic_load(&b->word) >= RUNG; }
 /* Polls until the place has entered, after pauses of 1, 2, 4 .. hints, or until it is rung, after each hint. Returns
  * true if so. After polls that missed, a place leaves out its next 1, 3, 7 .. at most MOST polls: if the thread for
  * which it waits has no processor, or sleeps, polls only take time. */
@@ -92,6 +100,7 @@ APART void sleeps(zaulinte_monitor *m, uint32_t place) {
 uint64_t zaulinte_enter(zaulinte_monitor *m, uint32_t place) {
     uint64_t refused = claim(m, place);
     if (refused) return refused;
+    check_enter(m, place);
     if (m->place[place].backs_off) back_off(&m->place[place]);
     if (!tries(m, place)) sleeps(m, place);
     return 0;
@@ -111,6 +120,7 @@ static void resumes(zaulinte_monitor *m, uint32_t place, uint64_t next) {
     atomic_compare_exchange_strong(&mine->word, &is, ASLEEP);
     while (!is_rung(mine) || zaulinte_door_try_return(at(m, place)) != ZAULINTE_DOOR_ENTERED)
         port_sleep_while(mine, ASLEEP);
+    note_here(m, place);
     visit_begins(m);
     m->place[place].backs_off = atomic_exchange_explicit(&mine->word, AWAKE, memory_order_relaxed) == LEFT;
 }
@@ -118,6 +128,8 @@ uint64_t zaulinte_leave(zaulinte_monitor *m, uint32_t place) {
     uint64_t refused = may_act(m, place);
     if (refused) return refused;
     check_leave(m, place);
+    NOTE_ACT(LEAVE, 0, 0);
+    visit_ends(m);
     wake(m, zaulinte_door_leave(at(m, place)), LEFT);
     return unclaim(m, place, 0);
 }
@@ -125,8 +137,11 @@ uint64_t zaulinte_wait(zaulinte_monitor *m, uint32_t place, uint32_t condition, 
     uint64_t refused = may_act(m, place);
     if (refused) return refused;
     check_wait(m, place, condition, priority);
+    NOTE_ACT(WAIT, condition, priority);
+    note_away(m, place, WAITS, condition, priority);
+    visit_ends(m);
     uint64_t next = zaulinte_door_wait(at(m, place), condition, priority);
-    if (next > NOBODY) return next;
+    if (next > NOBODY) return note_here(m, place), next;
     resumes(m, place, next);
     check_ready(m, place, condition, priority);
     return 0;
@@ -135,7 +150,11 @@ uint64_t zaulinte_signal(zaulinte_monitor *m, uint32_t place, uint32_t condition
     uint64_t refused = may_act(m, place);
     if (refused) return refused;
     check_signal(m, place, condition);
+    NOTE_ACT(SIGNAL, condition, 0);
+    note_away(m, place, HAS_SIGNALLED, condition, 0);
+    visit_ends(m);
     uint64_t next = zaulinte_door_signal(at(m, place), condition);
+    if (next >= NOBODY) note_here(m, place);
     if (next > NOBODY) return next;
     if (resumed) *resumed = next < NOBODY;
     if (next < NOBODY) resumes(m, place, next);
@@ -146,6 +165,8 @@ uint64_t zaulinte_signal_leave(zaulinte_monitor *m, uint32_t place, uint32_t con
     if (refused) return refused;
     bool waited = resumed && zaulinte_door_queue(at(m, place), condition) == 1;
     check_signal_leave(m, place, condition);
+    NOTE_ACT(PASS, condition, 0);
+    visit_ends(m);
     uint64_t next = zaulinte_door_signal_leave(at(m, place), condition);
     if (next > NOBODY) return next;
     if (resumed) *resumed = waited;
@@ -160,12 +181,28 @@ static uint64_t tell(uint64_t number, uint64_t *to) {
 }
 #define ON zaulinte_monitor *m, uint32_t place, uint32_t condition
 #define IF_INSIDE(step) { uint64_t refused = may_act(m, place); return refused ? refused : (step); }
-uint64_t zaulinte_notify(ON, uint64_t *called) IF_INSIDE(tell(zaulinte_door_notify(at(m, place), condition), called))
-uint64_t zaulinte_broadcast(ON, uint64_t *called)
-    IF_INSIDE(tell(zaulinte_door_broadcast(at(m, place), condition), called))
+static uint64_t notifies(ON, uint64_t *called, uint8_t kind, uint64_t (*step)(zaulinte_door_place *, uint64_t)) {
+    uint64_t refused = may_act(m, place);
+    if (refused) return refused;
+    NOTE_ACT(kind, condition, 0);
+    uint64_t many = step(at(m, place), condition);
+    if (many <= NOBODY) note_notified(m, condition, many);
+    return tell(many, called);
+}
+uint64_t zaulinte_notify(ON, uint64_t *called) {
+    return notifies(m, place, condition, called, NOTIFY, zaulinte_door_notify);
+}
+uint64_t zaulinte_broadcast(ON, uint64_t *called) {
+    return notifies(m, place, condition, called, BROADCAST, zaulinte_door_broadcast);
+}
 uint64_t zaulinte_count(ON, uint64_t *count) IF_INSIDE(tell(zaulinte_door_count(at(m, place), condition), count))
 uint64_t zaulinte_queue(ON) IF_INSIDE(zaulinte_door_queue(at(m, place), condition))
-uint64_t zaulinte_first(ON, uint64_t *priority) IF_INSIDE(zaulinte_door_first(at(m, place), condition, priority))
+uint64_t zaulinte_first(ON, uint64_t *priority) {
+    uint64_t least = 0, refused = may_act(m, place); /* MemorySanitizer doesn't see that the archive writes it */
+    uint64_t some = refused ? refused : zaulinte_door_first(at(m, place), condition, &least);
+    if (some == 1) *priority = least;
+    return some;
+}
 
 /* Gives the places back, closes the door, and returns `code`, or why the door isn't closed. No call is under way. */
 static uint64_t undo(zaulinte_monitor *m, uint32_t places, uint64_t code) {
@@ -192,12 +229,13 @@ uint64_t zaulinte_make(zaulinte_monitor *m, uint64_t places, uint64_t conditions
         if (zaulinte_door_give_out(&m->door, at(m, k)) != k) refused = ZAULINTE_NO_MEMORY;
     }
     if (refused) return undo(m, (uint32_t)places, refused);
-    make_checks(m, conditions, mesa);
+    m->conditions = (uint16_t)conditions, m->hoare = (uint16_t)(conditions - mesa);
+    m->name = m->names = NULL, m->show = NULL, m->recording = NULL;
+    note_address(m);
     m->places = (uint32_t)places;
     return 0;
 }
 uint64_t zaulinte_free(zaulinte_monitor *m) {
-    for (uint32_t k = 0; k < m->places; k++)
-        if (m->place[k].thread) return ZAULINTE_IN_USE;
+    if (has_threads(m)) return ZAULINTE_IN_USE;
     return m->places ? undo(m, m->places, 0) : ZAULINTE_NO_BOOK;
 }

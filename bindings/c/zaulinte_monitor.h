@@ -8,11 +8,18 @@
  * zaulinte_monitor.c, with the same ZAULINTE_PORT and the same ZAULINTE_CHECKS: else the program doesn't link. */
 #ifndef ZAULINTE_MONITOR_H
 #define ZAULINTE_MONITOR_H
+#if defined(__cplusplus) ? __cplusplus < 201703L : __STDC_VERSION__ < 201112L
+#error "zaulinte_monitor.h is for C11 and C++17: compile with -std=c11 or -std=c++17, or newer"
+#endif
 #include "zaulinte_book.h" /* its codes */
 #include "zaulinte_door.h"
 #include "zaulinte_head.h" /* its codes, for zaulinte_text */
 #include <stdbool.h>
+#include <stddef.h>
 #include "zaulinte_port.h"
+#ifndef ZAULINTE_STDIO
+#define ZAULINTE_STDIO __STDC_HOSTED__ /* 0: no dumps, and no recordings */
+#endif
 #if __STDC_HOSTED__
 #include <stdio.h>
 #include <stdlib.h>
@@ -59,6 +66,11 @@ typedef struct zaulinte_place {
     zaulinte_door_place handle;
     zaulinte_patience patience[2]; /* to enter, and to resume */
     bool backs_off;                /* it was handed the monitor by a place that left */
+    /* why it is away, if it is; on which condition; with which priority; and the number of the act that sent it
+     * away, or notified it */
+    ZAULINTE_WORD(uint8_t) away, condition;
+    ZAULINTE_WORD(uint32_t) order;
+    ZAULINTE_WORD(uint64_t) priority;
 } zaulinte_place;
 
 /* The waiters on each condition, for a check: `count` is their number, `first` the priority of the waiter that a signal
@@ -76,15 +88,25 @@ typedef bool (*zaulinte_inv)(void *context);
 typedef bool (*zaulinte_rest)(void *context, const zaulinte_waiting *waiting);
 typedef bool (*zaulinte_ready)(void *context, uint32_t condition, uint64_t priority, const zaulinte_waiting *waiting);
 
+/* The last acts of a monitor, in memory of the caller's (`zaulinte_record`). */
+typedef struct zaulinte_recording zaulinte_recording;
+
 /* A monitor. Start with `static zaulinte_monitor m;`, with memory that is all zero at an address that is a multiple of
  * 64, or with `zaulinte_new`. It has a size of some 4 KB, with condition variables of some 8 KB. */
 typedef struct zaulinte_monitor {
     alignas(64) zaulinte_bell entrance; /* entering threads sleep on it */
     ZAULINTE_WORD(uint32_t) sleepers;   /* entering threads: asleep, about to sleep, or woken and not in yet */
     ZAULINTE_WORD(uint32_t) places;     /* 0: there is no monitor */
+    uint16_t conditions, hoare;         /* the number of conditions, and of Hoare's, which come first */
     zaulinte_door door;
+    zaulinte_recording *recording; /* NULL: nobody asked for one */
+    uint32_t order; /* the number of the next act that sends a place away, or notifies it */
+    const char *name, *names; /* of the monitor and of its conditions */
+    void (*show)(void *data);
+    void *data;
 #ifdef ZAULINTE_CHECKS
-    uint32_t conditions, hoare, signaller; /* the place that signalled last */
+    uint32_t signaller; /* the place that signalled last */
+    struct zaulinte_monitor *self;
     zaulinte_inv inv;
     zaulinte_rest rest;
     zaulinte_ready ready;
@@ -160,9 +182,29 @@ ZAULINTE_CODE zaulinte_first(zaulinte_monitor *m, uint32_t place, uint32_t condi
 ZAULINTE_CODE zaulinte_count(zaulinte_monitor *m, uint32_t place, uint32_t condition, uint64_t *count);
 
 /* Sets what holds of the data, `context`. Call it after `zaulinte_make`, before any thread enters. A build with
- * ZAULINTE_CHECKS tests it at each wait, signal and leave. If a check fails, it prints to standard error which of the
- * three, the place and what it does on which condition, and aborts. A build without ZAULINTE_CHECKS tests nothing. */
+ * ZAULINTE_CHECKS tests it at each wait, signal and leave. If a check fails, it prints to standard error the file and
+ * the line of the call, the monitor's name, which of the three, the place and what it does on which condition; then
+ * the dump; and aborts. A build without ZAULINTE_CHECKS tests nothing. */
 void zaulinte_check(zaulinte_monitor *m, zaulinte_inv inv, zaulinte_rest rest, zaulinte_ready ready, void *context);
+
+/* Names the monitor and its conditions, for dumps and for the lines of checks. `conditions` has the names with commas
+ * or blanks between, in the order of their numbers. Either may be NULL, and both are kept, not copied. Call it after
+ * `zaulinte_make`, before any thread enters. */
+void zaulinte_name(zaulinte_monitor *m, const char *name, const char *conditions);
+#ifdef ZAULINTE_CHECKS
+/* Says where the calling thread makes its next call, for the line of a check. In C the calls do that themselves. */
+void zaulinte_at(const char *file, int line);
+#if !defined(__cplusplus) && !defined(ZAULINTE_MONITOR_CODE)
+#define ZAULINTE_HERE(call) (zaulinte_at(__FILE__, __LINE__), call)
+#define zaulinte_enter(m, place) ZAULINTE_HERE(zaulinte_enter(m, place))
+#define zaulinte_try_enter(m, place) ZAULINTE_HERE(zaulinte_try_enter(m, place))
+#define zaulinte_leave(m, place) ZAULINTE_HERE(zaulinte_leave(m, place))
+#define zaulinte_wait(m, place, condition, priority) ZAULINTE_HERE(zaulinte_wait(m, place, condition, priority))
+#define zaulinte_signal(m, place, condition, resumed) ZAULINTE_HERE(zaulinte_signal(m, place, condition, resumed))
+#define zaulinte_signal_leave(m, place, condition, resumed) \
+    ZAULINTE_HERE(zaulinte_signal_leave(m, place, condition, resumed))
+#endif
+#endif
 
 /* Returns the meaning of a code, of zaulinte_head.h too, as English text without a full stop. */
 static inline const char *zaulinte_text(uint64_t code) {
@@ -188,6 +230,28 @@ static inline const char *zaulinte_text(uint64_t code) {
     default: return "no code of a monitor";
     }
 }
+
+#if ZAULINTE_STDIO
+/* Sets a function that prints the monitor's data to standard error, at the end of each dump. */
+void zaulinte_show(zaulinte_monitor *m, void (*show)(void *data), void *data);
+/* Prints to standard error the thread of each place and what it does: it is outside, enters, is inside, waits (on which
+ * condition, with which priority), has signalled, or was notified. Then prints the places that are away in the order in
+ * which they resume. Any thread may call it at any time before `zaulinte_free`, and so may a debugger:
+ * `call (void)zaulinte_dump(m)`. If threads are running, its lines may be of different moments. */
+void zaulinte_dump(zaulinte_monitor *m);
+
+/* Returns how many bytes a recording of so many acts has. */
+size_t zaulinte_recording_size(size_t acts);
+/* Records the acts of all places from now on, in a ring in `memory`, of `size` bytes and aligned as `malloc`'s, which
+ * the caller keeps until `zaulinte_free`; NULL ends the recording. Returns 0. Refused: 107 there is no monitor, 112 a
+ * thread has a place, 111 the memory has no room for an act. */
+ZAULINTE_CODE zaulinte_record(zaulinte_monitor *m, void *memory, size_t size);
+/* Writes the recording to a file, as a script of docs/GUIDE.md: the script program replays it, and the page draws it.
+ * If the ring overflowed, the script begins with acts that bring a new monitor into the state in which the ring
+ * begins. Returns false if nothing is recorded, or the file can't be written. Call it by a place inside, while no
+ * thread has a place, or from a debugger. */
+bool zaulinte_save(zaulinte_monitor *m, const char *path);
+#endif
 
 #if __STDC_HOSTED__
 /* Tests the code that a call returned. If it isn't 0, prints file, line, call, text and code to standard error, and

@@ -8,7 +8,8 @@
  * A port is read twice. First by zaulinte_monitor.h, in C and in C++; there it defines
  *   ZAULINTE_PORT_NAME    a word, which becomes part of a symbol that all these files ask for: a program that was
  *                         compiled with two ports doesn't link;
- *   ZAULINTE_BELL_FIELDS  the fields of a bell besides its word, if there are any. A thread sleeps on a bell.
+ *   ZAULINTE_BELL_FIELDS  the fields of a bell besides its word, if there are any. A thread sleeps on a bell;
+ *   ZAULINTE_STDIO        0 if there is no stdio.h with files: then no dumps, and no recordings.
  * Then by zaulinte_monitor.c alone, with ZAULINTE_PORT_CODE defined; there it defines
  *   port_make, port_free  set up the fields of a bell, and undo that.
  *   port_sleep_while      blocks the calling thread while the bell's word is `is`. For `port_wake_one` the test of the
@@ -40,8 +41,8 @@
 #error "compile zaulinte_monitor.c as C"
 #endif
 #ifndef ZAULINTE_POLLS
-/* Spin hints, at most: for all polls of a thread that waits to resume, before it sleeps; and for each single pause of an
- * entering thread. More than a wake-up takes. 0: no thread polls. */
+/* Spin hints, at most: for all polls of a thread that waits to resume, before it sleeps; and for each single pause of
+ * an entering thread. More than a wake-up takes. 0: no thread polls. */
 #define ZAULINTE_POLLS 2000
 #endif
 #ifndef ZAULINTE_BACK_OFF
@@ -57,25 +58,30 @@ static inline void port_relax(void) {
 }
 #endif
 #ifndef port_thread
+#if defined(__x86_64__) && defined(__linux__) && __STDC_HOSTED__
+static inline uintptr_t port_thread(void) { /* its pthread_t, which a debugger shows */
+    uintptr_t mine;
+    __asm__("mov %%fs:0, %0" : "=r"(mine));
+    return mine;
+}
+#else
 static inline uintptr_t port_thread(void) {
     static _Thread_local char mine;
     return (uintptr_t)&mine;
 }
 #endif
+#endif
+#ifndef PORT_THREAD
+#define PORT_THREAD "thread %#" PRIxPTR /* how to print it */
+#endif
 
-/* ThreadSanitizer doesn't see into the archive: these two calls show it that a visit comes after the visit before. */
-#ifdef __SANITIZE_THREAD__
-#define ZAULINTE_WATCHED
-#elif defined(__has_feature)
-#if __has_feature(thread_sanitizer)
-#define ZAULINTE_WATCHED
-#endif
-#endif
-#ifdef ZAULINTE_WATCHED
-void __tsan_acquire(void *at);
-void __tsan_release(void *at);
-#define visit_begins(m) __tsan_acquire(&(m)->door)
-#define visit_ends(m) __tsan_release(&(m)->door)
+/* ThreadSanitizer doesn't see into the archive: these two calls show it that a visit comes after the visit before. They
+ * are there in a program that it watches, also if this library was compiled without it. */
+#if defined(__ELF__) && ZAULINTE_STDIO
+__attribute__((weak)) void __tsan_acquire(void *at);
+__attribute__((weak)) void __tsan_release(void *at);
+#define visit_begins(m) (__tsan_acquire ? __tsan_acquire(&(m)->door) : (void)0)
+#define visit_ends(m) (__tsan_release ? __tsan_release(&(m)->door) : (void)0)
 #else
 #define visit_begins(m) ((void)(m))
 #define visit_ends(m) ((void)(m))

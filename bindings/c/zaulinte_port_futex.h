@@ -10,6 +10,17 @@
 #include <sys/syscall.h>
 long syscall(long number, ...); /* unistd.h has it, but not by -std=c11 */
 
+#ifdef ZAULINTE_CHECKS
+/* The thread's number in the kernel (LWP), which no later thread has soon. Its pthread_t may be that of the next one.
+ * */
+static inline uintptr_t port_thread_number(void) {
+    static _Thread_local long mine;
+    if (!mine) mine = syscall(SYS_gettid);
+    return (uintptr_t)mine;
+}
+#define port_thread port_thread_number
+#define PORT_THREAD "LWP %" PRIuPTR
+#endif
 static inline void port_make(zaulinte_bell *b) { (void)b; }
 static inline void port_free(zaulinte_bell *b) { (void)b; }
 static inline void port_sleep_while(zaulinte_bell *b, uint32_t is) {

@@ -2,6 +2,7 @@
 #ifndef ZAULINTE_PORT_CODE
 
 #define ZAULINTE_PORT_NAME kernel
+#define ZAULINTE_STDIO 0
 struct thread;
 struct thread_queue {
     struct thread *first, *last;

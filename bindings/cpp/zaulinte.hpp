@@ -12,7 +12,11 @@
 // A refused call throws `refused`, and nothing happened. No destructor throws. If an exception leaves the scope of an
 // `inside`, its place leaves the monitor, with the data as they are.
 #pragma once
+#if __cplusplus < 201703L
+#error "zaulinte.hpp is for C++17: compile with -std=c++17, or newer"
+#else
 #include "zaulinte_monitor.h"
+#include <cstddef>
 #include <cstdint>
 #include <exception>
 #include <memory>
@@ -62,6 +66,18 @@ struct condition_names {
 // The enum of a monitor without conditions of one kind.
 ZAULINTE_CONDITIONS(no_conditions, );
 
+// The file and the line of a call, for the lines of a build with ZAULINTE_CHECKS.
+struct from {
+    const char *file;
+    int line;
+    static constexpr from here(const char *f = __builtin_FILE(), int l = __builtin_LINE()) noexcept { return {f, l}; }
+    void tell() const noexcept {
+#ifdef ZAULINTE_CHECKS
+        zaulinte_at(file, line);
+#endif
+    }
+};
+
 // What a refused call throws. `code` returns the code of zaulinte_monitor.h; `what` names the call, the place and, if
 // there is one, the condition.
 class refused : public std::logic_error {
@@ -81,6 +97,9 @@ template <class T, class C, class M = no_conditions> class monitor {
     static_assert(conditions <= 8, "at most 8 conditions");
     zaulinte_monitor m{};
     T data;
+    std::string names = std::string(hoare.all) + ", " + mesa.all;
+    std::unique_ptr<std::max_align_t[]> recording;
+    void (*shown)(const T &) = nullptr;
 
     // Returns the number of a condition, or, if a cast made a value that no condition has, a number that is refused.
     static std::uint32_t at(C c) noexcept { return number_of(c, 0); }
@@ -113,6 +132,7 @@ template <class T, class C, class M = no_conditions> class monitor {
     template <class... A> explicit monitor(unsigned number_of_places, A &&...a) : data(std::forward<A>(a)...) {
         std::uint64_t code = zaulinte_make(&m, number_of_places, conditions, mesa.count());
         if (code) throw refused(code, "a monitor of " + std::to_string(number_of_places) + " places");
+        name(nullptr);
     }
     monitor(const monitor &) = delete;
     monitor &operator=(const monitor &) = delete;
@@ -121,6 +141,28 @@ template <class T, class C, class M = no_conditions> class monitor {
     ~monitor() {
         if (zaulinte_free(&m)) std::terminate();
     }
+
+    // Names the monitor, for dumps and for the lines of checks. Its conditions have the names of their enums. The text
+    // is kept, not copied.
+    void name(const char *text) noexcept { zaulinte_name(&m, text, names.c_str()); }
+    // Sets a function that prints the data to standard error, at the end of each dump.
+    void show(void (*print)(const T &)) noexcept {
+        shown = print;
+        zaulinte_show(&m, print ? shows : nullptr, this);
+    }
+    // Prints to standard error what each place does: `zaulinte_dump` has the lines.
+    void dump() noexcept { zaulinte_dump(&m); }
+    // Records the acts of all places from now on, and keeps the last of them, so many. Throws `refused` if a thread has
+    // a place: 112.
+    void record(std::size_t acts) {
+        std::size_t size = zaulinte_recording_size(acts);
+        std::unique_ptr<std::max_align_t[]> memory(new std::max_align_t[size / sizeof(std::max_align_t) + 1]);
+        std::uint64_t code = zaulinte_record(&m, memory.get(), size);
+        if (code) throw refused(code, "record");
+        recording = std::move(memory);
+    }
+    // Writes the recording to a file: `zaulinte_save` says when, and what it is. Returns false if that can't be done.
+    bool save(const char *path) noexcept { return zaulinte_save(&m, path); }
 
     // The waiters on each condition, for a check: `count` is their number, `first` the priority of the waiter that a
     // signal would resume, if there is one.
@@ -150,6 +192,10 @@ template <class T, class C, class M = no_conditions> class monitor {
 
   private:
     checks tested{};
+    static void shows(void *at) {
+        auto *m = static_cast<monitor *>(at);
+        m->shown(m->data);
+    }
     static bool tests_inv(void *at) {
         auto *m = static_cast<monitor *>(at);
         return !m->tested.inv || m->tested.inv(m->data);
@@ -170,88 +216,101 @@ template <class T, class C, class M = no_conditions> class monitor {
         monitor *of;
         unsigned number;
         bool is = true;
+        from entered; // of the enter: its destructor's leave has no line
         friend class monitor;
-        inside(monitor *m, unsigned k) noexcept : of(m), number(k) {}
-        zaulinte_monitor *holds(const char *call) const {
+        inside(monitor *m, unsigned k, from where) noexcept : of(m), number(k), entered(where) {}
+        zaulinte_monitor *holds(const char *call, from where) const {
+            where.tell();
             if (!is) throw refused(ZAULINTE_NOT_INSIDE, std::string(call) + " by place " + std::to_string(number));
             return &of->m;
+        }
+        // Returns the data. With ZAULINTE_CHECKS a thread that hasn't the place is refused: 103.
+        T &reaches(const char *call, from where) const {
+            [[maybe_unused]] zaulinte_monitor *in = holds(call, where);
+#ifdef ZAULINTE_CHECKS
+            must(zaulinte_count(in, number, 0, nullptr), call, number);
+#endif
+            return of->data;
         }
 
       public:
         inside(const inside &) = delete;
         inside &operator=(const inside &) = delete;
         ~inside() {
+            entered.tell();
             if (is) of->leaves(number);
         }
-        T *operator->() { return holds("->"), &of->data; }
-        T &operator*() { return holds("*"), of->data; }
+        T *operator->() { return &reaches("->", entered); }
+        T &operator*() { return reaches("*", entered); }
 
         // Waits on a condition of either kind, and blocks until the place is resumed. Of the waiters a signal resumes
         // that of least priority, of equal ones the longest waiting.
-        template <class E> void wait(E c, std::uint64_t priority = 0) {
-            must(zaulinte_wait(holds("wait"), number, at(c), priority), "wait", number, c);
+        template <class E> void wait(E c, std::uint64_t priority = 0, from where = from::here()) {
+            must(zaulinte_wait(holds("wait", where), number, at(c), priority), "wait", number, c);
         }
         // Signals one of Hoare's conditions. If a place waits on it, hands off the monitor to it, and blocks until this
         // place is inside again. Returns true if a place waited.
-        bool signal(C c) {
+        bool signal(C c, from where = from::here()) {
             bool was = false;
-            must(zaulinte_signal(holds("signal"), number, at(c), &was), "signal", number, c);
+            must(zaulinte_signal(holds("signal", where), number, at(c), &was), "signal", number, c);
             return was;
         }
         // Signals one of Hoare's conditions as the last act: afterwards the place is outside, and this object refuses
         // every call. Returns true if a place waited.
-        bool signal_leave(C c) {
+        bool signal_leave(C c, from where = from::here()) {
             bool was = false;
-            must(zaulinte_signal_leave(holds("signal_leave"), number, at(c), &was), "signal_leave", number, c);
+            must(zaulinte_signal_leave(holds("signal_leave", where), number, at(c), &was), "signal_leave", number, c);
             is = false;
             return was;
         }
         // Notifies the waiter on a Mesa condition that a signal would resume. Returns how many were notified, 1 or 0.
-        std::uint64_t notify(M c) {
+        std::uint64_t notify(M c, from where = from::here()) {
             std::uint64_t many = 0;
-            must(zaulinte_notify(holds("notify"), number, at(c), &many), "notify", number, c);
+            must(zaulinte_notify(holds("notify", where), number, at(c), &many), "notify", number, c);
             return many;
         }
         // Notifies all waiters on a Mesa condition. Returns how many were notified.
-        std::uint64_t broadcast(M c) {
+        std::uint64_t broadcast(M c, from where = from::here()) {
             std::uint64_t many = 0;
-            must(zaulinte_broadcast(holds("broadcast"), number, at(c), &many), "broadcast", number, c);
+            must(zaulinte_broadcast(holds("broadcast", where), number, at(c), &many), "broadcast", number, c);
             return many;
         }
         // Leaves: afterwards the place is outside, and this object refuses every call.
-        void leave() {
-            must(zaulinte_leave(holds("leave"), number), "leave", number);
+        void leave(from where = from::here()) {
+            must(zaulinte_leave(holds("leave", where), number), "leave", number);
             is = false;
         }
 
         // Returns true if a place waits on the condition (a notified place doesn't).
-        template <class E> bool queue(E c) {
-            std::uint64_t some = zaulinte_queue(holds("queue"), number, at(c));
+        template <class E> bool queue(E c, from where = from::here()) {
+            std::uint64_t some = zaulinte_queue(holds("queue", where), number, at(c));
             must(some > 1 ? some : 0, "queue", number, c);
             return some == 1;
         }
         // Returns the number of places that wait on the condition.
-        template <class E> std::uint64_t count(E c) {
+        template <class E> std::uint64_t count(E c, from where = from::here()) {
             std::uint64_t many = 0;
-            must(zaulinte_count(holds("count"), number, at(c), &many), "count", number, c);
+            must(zaulinte_count(holds("count", where), number, at(c), &many), "count", number, c);
             return many;
         }
         // Returns the priority of the place that a signal would resume, or nothing if no place waits.
-        template <class E> std::optional<std::uint64_t> first(E c) {
-            std::uint64_t priority = 0, some = zaulinte_first(holds("first"), number, at(c), &priority);
+        template <class E> std::optional<std::uint64_t> first(E c, from where = from::here()) {
+            std::uint64_t priority = 0, some = zaulinte_first(holds("first", where), number, at(c), &priority);
             must(some > 1 ? some : 0, "first", number, c);
             return some ? std::optional<std::uint64_t>(priority) : std::nullopt;
         }
     };
 
     // Lets the place with this number enter, and blocks until it can.
-    [[nodiscard]] inside enter(unsigned number) {
+    [[nodiscard]] inside enter(unsigned number, from where = from::here()) {
+        where.tell();
         must(zaulinte_enter(&m, number), "enter", number);
-        return inside(this, number);
+        return inside(this, number, where);
     }
     // Lets the place with this number enter if the monitor is free at this moment, else returns null.
-    [[nodiscard]] std::unique_ptr<inside> try_enter(unsigned number) {
-        std::unique_ptr<inside> in(new inside(this, number));
+    [[nodiscard]] std::unique_ptr<inside> try_enter(unsigned number, from where = from::here()) {
+        std::unique_ptr<inside> in(new inside(this, number, where));
+        where.tell();
         std::uint64_t code = zaulinte_try_enter(&m, number);
         in->is = code == 0;
         must(code == ZAULINTE_NOT_FREE ? 0 : code, "try_enter", number);
@@ -269,8 +328,10 @@ template <class M> class place {
     place(const place &) = delete;
     place &operator=(const place &) = delete;
     place(place &&p) noexcept : of(std::exchange(p.of, nullptr)), number(p.number) {}
-    [[nodiscard]] typename M::inside enter() { return monitor().enter(number); }
-    [[nodiscard]] std::unique_ptr<typename M::inside> try_enter() { return monitor().try_enter(number); }
+    [[nodiscard]] typename M::inside enter(from where = from::here()) { return monitor().enter(number, where); }
+    [[nodiscard]] std::unique_ptr<typename M::inside> try_enter(from where = from::here()) {
+        return monitor().try_enter(number, where);
+    }
 
   private:
     M &monitor() {
@@ -279,3 +340,4 @@ template <class M> class place {
     }
 };
 } // namespace zaulinte
+#endif

@@ -1,9 +1,11 @@
 //! A place inside, with its acts.
 use crate::checks::Fault;
 use crate::conditions::{Condition, NoConditions};
-use crate::door::{Next, Seat};
+use crate::door::Next;
 use crate::monitor::Own;
+use crate::notes::Does;
 use crate::poison::LockResult;
+use crate::recording::Kind;
 use crate::{DefaultPort, Place, Port};
 use core::fmt::{self, Debug};
 use core::marker::PhantomData;
@@ -79,12 +81,14 @@ impl<'a, T, C: Condition, M: Condition, P: Port> Inside<'a, T, C, M, P> {
         let number = number_of(condition);
         self.check_signal(condition);
         self.own().signaller = self.place.seat.number();
+        self.note_away(Kind::Signal, Does::HasSignalled, number, 0);
         self.place.inner.vacate();
         let next = self.place.seat.signal(number);
         if next.is_some() {
             self.go_away(next);
         }
         self.place.inner.occupy();
+        self.place.inner.notes.note_back(self.place.seat.number());
         self.place.inner.or_poisoned(next.is_some())
     }
 
@@ -97,6 +101,7 @@ impl<'a, T, C: Condition, M: Condition, P: Port> Inside<'a, T, C, M, P> {
         }
         self.check_signal(condition);
         self.own().signaller = self.place.seat.number();
+        self.place.record(Kind::Pass, number, 0);
         self.place.go_outside(|seat| seat.signal_leave(number));
         true
     }
@@ -105,13 +110,21 @@ impl<'a, T, C: Condition, M: Condition, P: Port> Inside<'a, T, C, M, P> {
     /// waited on it.
     #[track_caller]
     pub fn notify(&mut self, condition: M) -> bool {
-        self.place.seat.notify(number_of_mesa::<C, M>(condition)) > 0
+        let number = number_of_mesa::<C, M>(condition);
+        self.place.record(Kind::Notify, number, 0);
+        let many = self.place.seat.notify(number);
+        self.place.inner.notes.note_notified(number, many);
+        many > 0
     }
 
     /// Notifies all waiters on a Mesa condition, and stays inside. Returns how many there were.
     #[track_caller]
     pub fn broadcast(&mut self, condition: M) -> usize {
-        self.place.seat.broadcast(number_of_mesa::<C, M>(condition))
+        let number = number_of_mesa::<C, M>(condition);
+        self.place.record(Kind::Broadcast, number, 0);
+        let many = self.place.seat.broadcast(number);
+        self.place.inner.notes.note_notified(number, many);
+        many
     }
 
     /// Returns true if a place waits on one of Hoare's conditions (Hoare's `queue`).
@@ -153,10 +166,18 @@ impl<T, C: Condition, M: Condition, P: Port> Inside<'_, T, C, M, P> {
     }
 
     fn wait_at(&mut self, number: usize, priority: u64) {
+        self.note_away(Kind::Wait, Does::Waits, number, priority);
         self.place.inner.vacate();
         let next = self.place.seat.wait(number, priority);
         self.go_away(next);
         self.place.inner.occupy();
+        self.place.inner.notes.note_back(self.place.seat.number());
+    }
+
+    /// Records an act by which this place may go away, and notes why.
+    fn note_away(&self, kind: Kind, does: Does, number: usize, priority: u64) {
+        self.place.record(kind, number, priority);
+        self.place.inner.notes.note_away(self.place.seat.number(), does, number, priority);
     }
 
     /// Blocks, after a step by which this place went away, until the place is inside again.
@@ -197,7 +218,7 @@ impl<T, C: Condition, M: Condition, P: Port> Drop for Leaving<'_, '_, T, C, M, P
         if self.is_at_fault || (P::panicking() && !self.inside.panicked) {
             self.inside.place.inner.poisoned.store(true, Relaxed);
         }
-        self.inside.place.go_outside(Seat::leave);
+        self.inside.place.leave();
     }
 }
 

@@ -13,9 +13,11 @@ mod handle;
 mod heap;
 mod inside;
 mod monitor;
+mod notes;
 mod parking;
 mod poison;
 mod port;
+mod recording;
 mod refused;
 #[cfg(feature = "std")]
 mod std_port;

@@ -1,14 +1,20 @@
 //! A monitor and its places.
 use crate::conditions::{Condition, NoConditions};
 use crate::door::{Door, Next, Seat};
+use crate::notes::{Does, Notes, Shown};
 use crate::parking::{back_off, Departure, Parking, Patience};
 use crate::poison::{LockResult, PoisonError};
+use crate::recording::{Act, Kind, Recorder, Recording};
 use crate::refused::room_for;
 use crate::{Checks, DefaultPort, Inside, Port, Refused};
+use alloc::format;
+use alloc::string::String;
 use alloc::sync::Arc;
 use alloc::vec::Vec;
+use core::any::type_name;
 use core::cell::UnsafeCell;
 use core::fmt;
+use core::marker::PhantomData;
 use core::sync::atomic::{AtomicBool, Ordering::Acquire, Ordering::Relaxed, Ordering::Release};
 
 /// What only the place inside uses.
@@ -22,6 +28,8 @@ pub(crate) struct Own<T> {
 pub(crate) struct Inner<T, C, M, P> {
     _door: Door, // closes with its last owner
     pub(crate) parking: Parking<P>,
+    pub(crate) notes: Notes,
+    recorder: Recorder,
     pub(crate) poisoned: AtomicBool,
     /// True while a place is inside, in a debug build.
     occupied: AtomicBool,
@@ -117,6 +125,7 @@ impl<T: Send, C: Condition, M: Condition, P: Port> Monitor<T, C, M, P> {
     ) -> Result<(Self, Vec<Place<T, C, M, P>>), Refused> {
         let mut door = Door::new(places, C::COUNT.saturating_add(M::COUNT), M::COUNT)?;
         let parking = Parking::new(places, ports)?;
+        let (notes, recorder) = (Notes::new(places)?, Recorder::default());
         let mut all = room_for(places)?;
         let mut seats = room_for(places)?;
         for _ in 0..places {
@@ -124,7 +133,7 @@ impl<T: Send, C: Condition, M: Condition, P: Port> Monitor<T, C, M, P> {
         }
         let (poisoned, occupied) = (AtomicBool::new(false), AtomicBool::new(false));
         let own = UnsafeCell::new(Own { data, signaller: 0 });
-        let inner = Arc::new(Inner { _door: door, parking, poisoned, occupied, checks, own });
+        let inner = Arc::new(Inner { _door: door, parking, notes, recorder, poisoned, occupied, checks, own });
         seats.reverse(); // the door gave the last place out first
         let place = |seat| Place {
             seat,
@@ -148,6 +157,31 @@ impl<T: Send, C: Condition, M: Condition, P: Port> Monitor<T, C, M, P> {
         self.0.poisoned.store(false, Relaxed);
     }
 
+    /// Records the acts of all places from now on, and keeps the last of them, so many. `places` are all places of the
+    /// monitor: so none is in a call. Refused: `NotOutside` a place isn't among them, or is inside since its guard was
+    /// forgotten; `NoMemory`.
+    ///
+    /// # Panics
+    /// If the monitor records already.
+    #[track_caller]
+    pub fn record(&self, places: &mut [Place<T, C, M, P>], acts: usize) -> Result<(), Refused> {
+        let is_mine = |place: &Place<T, C, M, P>| Arc::ptr_eq(&place.inner, &self.0) && !place.is_inside;
+        if places.len() != self.0.parking.places() || !places.iter().all(is_mine) {
+            return Err(Refused::NotOutside);
+        }
+        self.0.recorder.set(Recording::new(acts)?);
+        Ok(())
+    }
+
+    /// Returns the recording as a script, which the script program replays and the page draws. If the ring overflowed
+    /// it begins with acts that bring a new monitor into the state in which the ring begins. Returns nothing if the
+    /// monitor doesn't record, or if acts are recorded too fast to be read. Any thread may call it at any time.
+    pub fn recording(&self) -> Option<String> {
+        let lines = self.0.recorder.get()?.lines(self.0.notes.inside())?;
+        let (places, conditions) = (self.0.parking.places(), C::COUNT + M::COUNT);
+        Some(format!("monitor {places} {conditions} {}\n{lines}", M::COUNT))
+    }
+
     /// Returns the data, if each place was dropped, in an error if a thread panicked inside. Else returns nothing, and
     /// the places keep the data.
     pub fn into_inner(self) -> Option<LockResult<T>> {
@@ -168,14 +202,21 @@ impl<T: Send, C: Condition, M: Condition, P: Port> Place<T, C, M, P> {
     /// `Mutex::lock` does.
     ///
     /// # Panics
-    /// If the place is inside, since an earlier guard was forgotten (`mem::forget`).
+    /// If the place is inside, since an earlier guard was forgotten (`mem::forget`). In a debug build also if the thread
+    /// is inside by another place: it would sleep for ever.
     #[track_caller]
     pub fn enter(&mut self) -> LockResult<Inside<'_, T, C, M, P>> {
         self.must_be_outside();
+        if cfg!(debug_assertions) {
+            if let Some(other) = self.inner.notes.inside_by(P::thread()) {
+                panic!("place {} enters, but its thread is inside by place {other}", self.number());
+            }
+        }
         if core::mem::take(&mut self.backs_off) {
             back_off();
         }
         if !self.seat.try_enter() {
+            self.inner.notes.note(self.number(), Does::Enters, P::thread());
             self.inner.parking.enter_later(&mut self.seat, &mut self.to_enter);
         }
         self.entered()
@@ -199,6 +240,7 @@ impl<T: Send, C: Condition, M: Condition, P: Port> Place<T, C, M, P> {
 
     fn entered(&mut self) -> LockResult<Inside<'_, T, C, M, P>> {
         self.inner.occupy();
+        self.inner.notes.note(self.seat.number(), Does::IsInside, P::thread());
         let is_poisoned = self.inner.is_poisoned();
         let inside = Inside::new(self);
         if is_poisoned {
@@ -209,17 +251,34 @@ impl<T: Send, C: Condition, M: Condition, P: Port> Place<T, C, M, P> {
     }
 }
 
-impl<T, C, M, P: Port> fmt::Debug for Monitor<T, C, M, P> {
+/// Shows what each place does, by which thread, and in which order the places that are away resume. Any
+/// thread may do that at any time; if threads are running, its parts may be of different moments.
+impl<T, C: Condition, M: Condition, P: Port> fmt::Debug for Monitor<T, C, M, P> {
     fn fmt(&self, f: &mut fmt::Formatter<'_>) -> fmt::Result {
         let mut this = f.debug_struct("Monitor");
-        this.field("places", &self.0.parking.places()).field("is_poisoned", &self.0.is_poisoned());
-        this.finish_non_exhaustive()
+        this.field("data", &format_args!("{}", type_name::<T>())).field("is_poisoned", &self.0.is_poisoned());
+        this.field("places", &Shown::<C, M> { notes: &self.0.notes, of: PhantomData }).finish()
     }
 }
 
 impl<T, C, M, P: Port> Place<T, C, M, P> {
+    /// Records an act of this place, which is inside, before its step.
+    #[inline]
+    pub(crate) fn record(&self, kind: Kind, condition: usize, priority: u64) {
+        if let Some(recording) = self.inner.recorder.get() {
+            recording.note(Act { kind, place: self.seat.number(), condition, priority });
+        }
+    }
+
+    /// Leaves, and wakes the next thread.
+    pub(crate) fn leave(&mut self) {
+        self.record(Kind::Leave, 0, 0);
+        self.go_outside(Seat::leave);
+    }
+
     /// Makes a step by which this place leaves, and wakes the next thread.
     pub(crate) fn go_outside(&mut self, step: impl FnOnce(&mut Seat) -> Next) {
+        self.inner.notes.note(self.seat.number(), Does::IsOutside, 0);
         self.inner.vacate();
         let next = step(&mut self.seat);
         self.is_inside = false;
@@ -230,7 +289,7 @@ impl<T, C, M, P: Port> Place<T, C, M, P> {
 impl<T, C, M, P: Port> Drop for Place<T, C, M, P> {
     fn drop(&mut self) {
         if self.is_inside {
-            self.go_outside(Seat::leave);
+            self.leave();
         }
     }
 }

@@ -67,6 +67,11 @@ pub unsafe trait Port: Send + Sync {
     fn panicking() -> bool {
         false
     }
+
+    /// Returns a number of the calling thread, by which `Debug` of a monitor names it. By default 0: it names none.
+    fn thread() -> usize {
+        0
+    }
 }
 
 /// The port of a monitor that names none: that of std.

@@ -39,4 +39,20 @@ unsafe impl Port for StdPort {
     fn panicking() -> bool {
         thread::panicking()
     }
+
+    /// Returns the thread's `pthread_t`, which debuggers show, or the address of a variable of its own.
+    fn thread() -> usize {
+        #[cfg(all(target_os = "linux", target_arch = "x86_64"))]
+        {
+            let number: usize;
+            // SAFETY: it reads the word that the C library keeps at this address, which is the thread's `pthread_t`
+            unsafe { core::arch::asm!("mov {}, fs:0", out(reg) number, options(nostack, readonly, preserves_flags)) };
+            number
+        }
+        #[cfg(not(all(target_os = "linux", target_arch = "x86_64")))]
+        {
+            std::thread_local!(static MINE: u8 = const { 0 });
+            MINE.with(|mine| mine as *const u8 as usize)
+        }
+    }
 }

@@ -121,6 +121,20 @@ fn a_waiter_and_a_signaller_hear_of_a_panic() {
 }
 
 #[test]
+#[cfg(debug_assertions)]
+fn a_thread_that_is_inside_enters_by_no_other_place() {
+    let (_monitor, mut places) = Monitor::<(), When>::new((), 2).unwrap();
+    let [first, second] = &mut places[..] else { unreachable!() };
+    let guard = first.enter().unwrap();
+    let panics = catch_unwind(AssertUnwindSafe(|| drop(second.enter())));
+    let wanted = "place 1 enters, but its thread is inside by place 0";
+    assert_eq!(panics.unwrap_err().downcast_ref::<String>().unwrap(), wanted);
+    assert!(second.try_enter().is_none());
+    drop(guard);
+    assert!(second.enter().is_ok());
+}
+
+#[test]
 fn a_forgotten_guard_is_refused() {
     let (monitor, mut places) = Monitor::<u32, When>::new(0, 2).unwrap();
     std::mem::forget(places[0].enter().unwrap());
@@ -161,7 +175,10 @@ fn guards_that_are_swapped_leave_their_own_monitors() {
 #[test]
 fn what_is_shown_names_the_place_and_the_data() {
     let (monitor, mut places) = Monitor::<u32, When>::new(7, 2).unwrap();
-    assert_eq!(format!("{monitor:?}"), "Monitor { places: 2, is_poisoned: false, .. }");
+    assert_eq!(
+        format!("{monitor:?}"),
+        "Monitor { data: u32, is_poisoned: false, places: {place 0: outside, place 1: outside} }"
+    );
     assert_eq!(format!("{:?}", places[1]), "Place { number: 1, is_inside: false, .. }");
     assert_eq!(format!("{:?}", places[1].enter().unwrap()), "Inside { place: 1, data: 7 }");
 }

@@ -33,6 +33,8 @@ class Page {
         $("undo").addEventListener("click", () => this.undo());
         $("new").addEventListener("click", () => this.begin());
         $("share").addEventListener("click", () => this.share());
+        $("open").addEventListener("change", () => this.open());
+        $("save").addEventListener("click", () => this.save());
         addEventListener("keydown", (it) => this.key(it));
         addEventListener("hashchange", () => this.follow_link());
         this.read_hash();
@@ -224,6 +226,26 @@ class Page {
         const mesa = value("new-mesa");
         this.replace(`monitor ${value("new-places")} ${value("new-conditions")}${mesa === "0" ? "" : ` ${mesa}`}\n`);
         $("shared").textContent = $("fault").textContent ? "" : "A new monitor: choose its calls, or write them.";
+    }
+
+    // Takes the script of a file that the visitor chose, as a recording of a program, and shows it after its last step.
+    async open() {
+        const [file] = $("open").files;
+        if (!file) return;
+        this.note();
+        this.take(await file.text(), Infinity);
+        $("shared").textContent = `This is ${file.name}.`;
+        $("open").value = ""; // so that the same file can be opened again
+    }
+
+    // Saves the lanes with the steps as an SVG file.
+    save() {
+        const svg = this.shows[0].file();
+        $("shared").textContent = svg ? "The picture is saved." : "There is no picture to be saved.";
+        if (!svg) return;
+        const href = URL.createObjectURL(new Blob([svg], { type: "image/svg+xml" }));
+        make("a", { href, download: "monitor.svg" }).click();
+        URL.revokeObjectURL(href);
     }
 
     async share() {

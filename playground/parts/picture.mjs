@@ -131,3 +131,25 @@ export function mark(svg, at) {
     svg.querySelector(".here").setAttribute("y", at === 0 ? -99 : (at - 1) * ROW);
     svg.querySelector(".future").setAttribute("y", at * ROW);
 }
+
+// Returns the page's rules for a picture: its colours, which are those of the light page, and the looks of its shapes.
+function rules() {
+    const is_one = ({ selectorText: it }) => it === ":root" || it?.startsWith("svg ") || it?.endsWith(", svg text");
+    return [...document.styleSheets[0].cssRules].filter(is_one).map((it) => it.cssText).join("\n");
+}
+
+// Returns the text of an SVG file: `drawn` with a line for each step, and the places over the lanes.
+export function file(states, sizes, lines) {
+    const [margin, top] = [12, 34];
+    const left = 2 * margin + CHARACTER * Math.max(...lines.map((it) => it.length));
+    const { lanes, shapes } = drawn(states, sizes, left, top);
+    const last = lanes.at(-1);
+    const [width, height] = [last ? last.middle + last.half + margin : left, top + ROW * lines.length + margin];
+    const text = (x, y, inner, style = "") => `<text x="${x}" y="${y}"${style}>${inner}</text>`;
+    const step = (line, row) => text(margin, top + ROW * row + 18, line, ' style="text-anchor:start"');
+    const heads = lanes.map(({ place, middle }) => text(middle, 22, `place ${place}`));
+    const page = `<rect width="${width}" height="${height}" class="blank"/>`;
+    const size = `width="${width}" height="${height}" viewBox="0 0 ${width} ${height}"`;
+    const parts = [`<style>\n${rules()}\n</style>`, page, ...heads, ...lines.map(step), ...shapes];
+    return `<svg xmlns="http://www.w3.org/2000/svg" ${size}>\n${parts.join("\n")}\n</svg>\n`;
+}

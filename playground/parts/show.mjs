@@ -1,6 +1,6 @@
 // One run of a script on the page: a sentence on the step, the data with rest and ready, the lists, and the lanes.
 import { MOST_CONDITIONS, MOST_PLACES, NOBODY, all, is_refused } from "./book.mjs";
-import { ROW, mark, picture } from "./picture.mjs";
+import { ROW, file, mark, picture } from "./picture.mjs";
 import { HIGH, WIDE } from "./scenes.mjs";
 import { data_after, owed, waiting_priorities } from "./schedulers.mjs";
 import { answer_text } from "./script.mjs";
@@ -148,6 +148,14 @@ export class Show {
         if (answers.length > 0) this.lanes.innerHTML = svg;
         else this.lanes.replaceChildren(make("p", { class: "hint none" }, "No step yet. Choose a call, or write one."));
         this.build_stage();
+    }
+
+    // Returns the lanes with the steps as the text of an SVG file, or null if there are none.
+    file() {
+        const { answers, sizes } = this.ran;
+        if (!this.ran.state(0) || answers.length === 0) return null;
+        const states = all(answers.length + 1).map((at) => this.ran.state(at));
+        return file(states, sizes, answers.map((it) => `${it.text} → ${answer_text(it)}`));
     }
 
     build_stage() {

@@ -132,6 +132,42 @@ async function check_link_and_undo() {
     checks.same((await read()).called, [2, 0], "a link that the page made");
 }
 
+// Puts a file into the field for files.
+const OPEN = `
+    const chosen = new DataTransfer();
+    chosen.items.add(new File([arguments[0]], 'run.script'));
+    const field = document.getElementById('open');
+    field.files = chosen.files;
+    field.dispatchEvent(new Event('change'));`;
+
+// Saves the picture. Returns the name and the text of the file.
+const SAVE = `
+    const [make, click] = [URL.createObjectURL, HTMLAnchorElement.prototype.click];
+    let name, blob;
+    URL.createObjectURL = (it) => ((blob = it), make(it));
+    HTMLAnchorElement.prototype.click = function () { name = this.download; };
+    document.getElementById('save').click();
+    [URL.createObjectURL, HTMLAnchorElement.prototype.click] = [make, click];
+    return blob ? blob.text().then((text) => [name, text]) : null;`;
+
+async function check_file() {
+    await go("");
+    await page.run(OPEN, "monitor 3 2 1\nenter 0\nwait 0 0 7\nenter 1\nsignal 1 0\n");
+    await pause(100);
+    const seen = await read();
+    checks.same([seen.inside, seen.signallers, seen.at, seen.shared], [[0], [1], 4, "This is run.script."], "a file");
+    const lanes = await page.run(SHAPES, ".lanes svg", 9999);
+    const [name, text] = await page.run(SAVE);
+    checks.same([name, text.match(/enter 0 → 0|place 1</g)], ["monitor.svg", ["place 1<", "enter 0 → 0"]], "a picture");
+    await page.open(`data:image/svg+xml,${encodeURIComponent(text)}`);
+    checks.same(await page.run(SHAPES, "svg", lanes.length), lanes, "the lanes of the picture");
+    await go("");
+    await write("");
+    checks.same(await page.run(SAVE), null, "no picture");
+    checks.same((await read()).shared, "There is no picture to be saved.", "what is said then");
+    await click("#undo");
+}
+
 // Takes the example that is shown to its end. Returns how many steps it has, and how many clauses were false.
 const TO_THE_END = `
     const on = document.querySelector('[data-control=on]');
@@ -276,6 +312,6 @@ await go("");
 for (const row of ROWS) await check_row(row);
 for (const row of ROWS.filter((it) => !it.is_large)) await click_row(row);
 const shown = [check_lists, check_marks, check_link_and_undo, check_examples, check_mesa, check_play, check_faults];
-for (const check of [...shown, check_record, check_loaded, check_pictures]) await check();
+for (const check of [...shown, check_record, check_loaded, check_pictures, check_file]) await check();
 await page.close();
 checks.end("the page in Chromium");

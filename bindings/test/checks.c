@@ -1,14 +1,15 @@
 /* What a build with ZAULINTE_CHECKS finds: `checks FAULT`. Two consumers wait on one of Hoare's conditions, and a
  * listener on a Mesa condition. `rest` and `ready` compare the waiters that they are given with an account, which the
  * thread inside keeps. Each fault but `none` ends by an abort, after a line that names the assertion, the place and the
- * condition. `null` is no fault: all three functions are null pointers. */
+ * condition; but for `later`: a thread that ended inside left its place to no later thread. `null` is no fault: all
+ * three functions are null pointers. */
 #include "zaulinte_monitor.h"
 #include <inttypes.h>
 #include <pthread.h>
 #include <sched.h>
 #include <string.h>
 
-enum { CONSUMER, SECOND, LISTENER, PRODUCER, PLACES };
+enum { CONSUMER, SECOND, LISTENER, PRODUCER, SPARE, PLACES };
 enum { NONEMPTY, FULL, CHANGED = 7, CONDITIONS, MESA = 2 };
 enum { LATER = 7, SOONER = 5 }; /* the consumers' priorities */
 static zaulinte_monitor m;
@@ -79,6 +80,9 @@ static void is_refused(void) {
 /* Sets the data so that an act of the producer, which is inside, is at fault. Returns the code of the act. */
 static uint64_t errs(const char *fault) {
     const char *act = strchr(fault, '-');
+    static zaulinte_monitor copy;
+    if (!strcmp(fault, "twice")) return zaulinte_enter(&m, SPARE);
+    if (!strcmp(fault, "copy")) return zaulinte_enter(memcpy(&copy, &m, sizeof m), SPARE);
     store.items = strncmp(fault, "inv", 3) == 0 ? -1 : strncmp(fault, "rest", 4) == 0;
     if (!act) account(NONEMPTY, 1, LATER); /* ready: there is no item */
     else if (!strcmp(act, "-wait")) account(FULL, 1, 3);
@@ -87,6 +91,25 @@ static uint64_t errs(const char *fault) {
     if (!strcmp(act, "-signal-leave")) return zaulinte_signal_leave(&m, PRODUCER, NONEMPTY, NULL);
     if (!strcmp(act, "-signal-nobody")) return zaulinte_signal_leave(&m, PRODUCER, FULL, NULL);
     return zaulinte_leave(&m, PRODUCER);
+}
+static void *ends_inside(void *code) {
+    *(uint64_t *)code = zaulinte_enter(&m, SPARE);
+    return NULL;
+}
+static void *leaves(void *code) {
+    *(uint64_t *)code = zaulinte_leave(&m, SPARE);
+    return NULL;
+}
+/* Returns the code of a leave, by the place of a thread that ended inside. */
+static uint64_t later(void) {
+    uint64_t code = 1;
+    pthread_t id;
+    pthread_create(&id, NULL, ends_inside, &code);
+    pthread_join(id, NULL);
+    IS(code, 0);
+    pthread_create(&id, NULL, leaves, &code);
+    pthread_join(id, NULL);
+    return code;
 }
 /* Resumes all: the second consumer by a signal, then the listener after the first consumer. */
 static void produces(void) {
@@ -107,6 +130,8 @@ int main(int argc, char **argv) {
     bool is_null = !strcmp(fault, "null");
     pthread_t ids[PRODUCER];
     ZAULINTE_CHECK(zaulinte_make(&m, PLACES, CONDITIONS, MESA));
+    zaulinte_name(&m, "store", "nonempty full c2 c3, c4 c5 c6, changed");
+    if (!strcmp(fault, "later")) return later() != ZAULINTE_NOT_OUTSIDE;
     zaulinte_check(&m, is_null ? NULL : inv, is_null ? NULL : rest, is_null ? NULL : ready, &store);
     for (uint32_t k = CONSUMER; k < PRODUCER; k++) ids[k] = waiter(k);
     ZAULINTE_CHECK(zaulinte_enter(&m, PRODUCER));

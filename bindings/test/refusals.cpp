@@ -4,7 +4,9 @@
 #include <cstdio>
 #include <cstdlib>
 #include <cstring>
+#include <fstream>
 #include <new>
+#include <sstream>
 #include <thread>
 #include <type_traits>
 
@@ -125,11 +127,27 @@ static void refusals() {
     is_refused("try_enter by place 1", not_outside, [&] { (void)m.try_enter(1); });
     std::thread([&] {
         is_refused("signal by place 1 on condition take", not_outside, [&] { in->signal(store::may::take); });
+        is_refused("-> by place 1", not_outside, [&] { (*in)->items++; }); // a build with ZAULINTE_CHECKS
     }).join();
     for (const call &c : calls)
         if (c.has_condition) is_refused(c.name + " by place 1 on condition 3", no_condition, [&] { c.on(*in); });
     in->leave(); // it was inside after each refusal
     for (const call &c : calls) is_refused(c.name + " by place 1", not_inside, [&] { c.on(*in); });
+}
+// A recording, in the file `path`, is the acts since `record`.
+static void recorded(const std::string &path) {
+    monitor m(2);
+    is(!m.save(path.c_str()));
+    {
+        auto in = m.enter(0);
+        is_refused("record", {ZAULINTE_IN_USE, "a thread has a place: it is inside, or in a call"}, [&] { m.record(9); });
+    }
+    m.record(9);
+    m.enter(1).notify(store::is::changed);
+    is(m.save(path.c_str()));
+    std::stringstream text;
+    text << std::ifstream(path).rdbuf();
+    is(text.str() == "monitor 2 5 2\nenter 1\nnotify 1 4\nleave 1\n");
 }
 // Monitors of eight conditions of one kind, one with data that can't be copied; and the names of conditions.
 static void limits() {
@@ -192,6 +210,7 @@ int main(int argc, char **argv) {
     refusals();
     limits();
     by_priority();
+    recorded(argv[0] + std::string(".script"));
     tested(fault);
     std::optional<monitor> m(std::in_place, 1u);
     auto in = m->try_enter(0);

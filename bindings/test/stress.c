@@ -1,7 +1,8 @@
 /* Eight threads and a sweeper at one monitor of three of Hoare's conditions and a Mesa condition, with drawn waits,
  * priorities, signals, notifies and broadcasts, and with misuse, which has to be refused. The thread inside writes the
- * log, and judge.c reads it: stress CALLS [SEED [SECONDS]] | judge. With SECONDS it fails if it takes longer, and
- * prints the log so far. */
+ * log, and judge.c reads it: stress CALLS [SEED [SECONDS [FOLDER]]] | judge. If SECONDS isn't 0 it fails if it takes
+ * longer, and prints the log so far. With FOLDER it records its last 2 * SEED acts, and the sweeper now and then saves
+ * them there as a script. */
 #define _GNU_SOURCE
 #include "zaulinte_monitor.h"
 #include <inttypes.h>
@@ -9,6 +10,7 @@
 #include <sched.h>
 #include <stdio.h>
 #include <stdlib.h>
+#include <string.h>
 #include <unistd.h>
 
 enum { WORKERS = 8, PLACES = WORKERS + 1, SPARE = PLACES, HOARE = 3, MESA = 3, CONDITIONS = 4 };
@@ -24,6 +26,7 @@ static zaulinte_monitor m;
 static event *events;
 static size_t many, room;
 static uint64_t data, finished; /* plain: touched only inside */
+static const char *folder; /* for the recordings */
 
 static void shows(void);
 static void fails(const char *why) {
@@ -81,6 +84,12 @@ static void calls(uint32_t me, bool all) {
     is((all ? zaulinte_broadcast : zaulinte_notify)(&m, me, MESA, &called), 0);
     is(called, all ? count : count > 0);
 }
+/* What a build with ZAULINTE_CHECKS tests: they read the data, as a sanitizer sees. */
+static bool inv(void *unused) { return unused == NULL && finished <= data; }
+static bool rest(void *unused, const zaulinte_waiting *w) { return inv(unused) && w->count[0] <= WORKERS; }
+static bool ready(void *unused, uint32_t c, uint64_t priority, const zaulinte_waiting *w) {
+    return rest(unused, w) && c < HOARE && priority < 4;
+}
 /* an act of another thread's place, which is outside, or in a call of that thread: it waits or is about to enter */
 static void acts_for_another(uint32_t other) {
     uint64_t code = zaulinte_leave(&m, other);
@@ -130,12 +139,40 @@ static void *works(void *p) {
     goes(j->me);
     return NULL;
 }
+#if ZAULINTE_STDIO
+/* Saves the recording, and beside it what the script program has to answer then. */
+static void saves(uint32_t me, uint32_t turn) {
+    char path[256];
+    snprintf(path, sizeof path, "%s/%" PRIu32, folder, turn);
+    if (!zaulinte_save(&m, path)) fails("the recording isn't saved");
+    FILE *script = fopen(path, "a"), *wanted = fopen(strcat(path, ".wanted"), "w");
+    if (!script || !wanted) fails("no file");
+    for (uint32_t c = 0; c < CONDITIONS; c++) {
+        uint64_t first = 0;
+        fprintf(script, "first %" PRIu32 "\n", c);
+        if (zaulinte_first(&m, me, c, &first) == 1) fprintf(wanted, "first %" PRIu32 " -> %" PRIu64 "\n", c, first);
+        else fprintf(wanted, "first %" PRIu32 " -> none\n", c);
+    }
+    fclose(script), fclose(wanted);
+}
+/* Begins to record in memory that it returns. */
+static void *records(size_t acts) {
+    size_t size = zaulinte_recording_size(acts);
+    void *memory = malloc(size);
+    is(zaulinte_record(&m, memory, size), 0);
+    return memory;
+}
+#else
+#define saves(me, turn) ((void)(me))
+#define records(acts) NULL
+#endif
 static void *sweeps(void *p) {
     job *j = p;
     for (uint32_t turn = 0;; turn++) {
         comes(j->me);
         if (finished == WORKERS) break;
         if (turn % 2) calls(j->me, true);
+        if (folder && turn < 400) saves(j->me, turn);
         passes(j->me, turn % HOARE);
         sched_yield();
     }
@@ -169,6 +206,9 @@ int main(int argc, char **argv) {
     if (!events) return 2;
     is(zaulinte_enter(&m, 0), ZAULINTE_NO_BOOK);
     is(zaulinte_make(&m, PLACES + 1, CONDITIONS, 1), 0);
+    zaulinte_check(&m, inv, rest, ready, NULL);
+    folder = argc > 4 ? argv[4] : NULL;
+    void *memory = folder ? records(2 * seed) : NULL;
     pthread_t ids[PLACES];
     job jobs[PLACES];
     for (uint32_t k = 0; k < PLACES; k++) {
@@ -180,5 +220,6 @@ int main(int argc, char **argv) {
     is(zaulinte_enter(&m, 0), ZAULINTE_NO_BOOK);
     shows();
     free(events);
+    free(memory);
     return 0;
 }

@@ -1,0 +1,48 @@
+/* A program that hangs: `seen ACTS FILE` prints where each thread waits, and writes the recording of its last ACTS
+ * acts to FILE. `seen` alone then hangs, for a debugger. Place 0 is inside, 1 and 2 wait, 3 and 4 are notified, 5 has signalled, 6
+ * enters, and 7 is outside. */
+#define _GNU_SOURCE
+#include "zaulinte_monitor.h"
+#include <pthread.h>
+#include <unistd.h>
+
+enum { NONEMPTY, NONFULL, CHANGED, CONDITIONS, PLACES = 8 };
+static zaulinte_monitor m;
+static int items = 1;
+
+static void shows(void *data) { fprintf(stderr, "  %d items\n", *(int *)data); }
+static void acts(uint32_t me) {
+    static const struct { uint32_t condition; uint64_t priority; } waits[] = {
+        {NONEMPTY, 0}, {NONFULL, 7}, {NONFULL, 5}, {CHANGED, 2}, {CHANGED, 1}};
+    ZAULINTE_CHECK(zaulinte_enter(&m, me));
+    if (me == 5) {
+        ZAULINTE_CHECK(zaulinte_broadcast(&m, me, CHANGED, NULL));
+        ZAULINTE_CHECK(zaulinte_signal(&m, me, NONEMPTY, NULL));
+    }
+    if (me < 5) ZAULINTE_CHECK(zaulinte_wait(&m, me, waits[me].condition, waits[me].priority));
+    ZAULINTE_CHECK(zaulinte_broadcast(&m, me, CHANGED, NULL)); /* place 0 alone comes so far */
+    items++;
+    pause();
+}
+static void *runs(void *place) {
+    acts((uint32_t)(uintptr_t)place);
+    return NULL;
+}
+/* Starts the thread of a place, and gives it time to do its part. */
+static void starts(uintptr_t place) {
+    pthread_t id;
+    pthread_create(&id, NULL, runs, (void *)place);
+    usleep(50000);
+}
+int main(int argc, char **argv) {
+    size_t size = zaulinte_recording_size(argc > 1 ? strtoul(argv[1], NULL, 10) : 9);
+    ZAULINTE_CHECK(zaulinte_make(&m, PLACES, CONDITIONS, 1));
+    zaulinte_name(&m, "buffer", "nonempty, nonfull, changed");
+    zaulinte_show(&m, shows, &items);
+    ZAULINTE_CHECK(zaulinte_record(&m, malloc(size), size));
+    static const uintptr_t order[] = {1, 2, 3, 4, 0, 5, 6};
+    for (int i = 0; i < 7; i++) starts(order[i]);
+    if (argc < 3) pause();
+    zaulinte_dump(&m);
+    return !zaulinte_save(&m, argv[2]);
+}

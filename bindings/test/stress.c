@@ -59,9 +59,11 @@ static void goes(uint32_t me) {
 }
 static bool somebody(uint32_t me, uint32_t c) { return zaulinte_queue(&m, me, c) == 1; }
 static uint64_t asks(uint32_t me, uint32_t c) {
-    uint64_t count = 0, first = 0;
+    uint64_t count = 0, first; /* MemorySanitizer sees if nobody writes it */
     is(zaulinte_count(&m, me, c, &count), 0);
     is(zaulinte_first(&m, me, c, &first), count > 0);
+    if (count == 0) first = 0;
+    if (first > 3) fails("a priority that no place has");
     put(ASKED, me, c, count, first);
     return count;
 }

@@ -1,6 +1,6 @@
-/* A program that hangs: `seen ACTS FILE` prints where each thread waits, and writes the recording of its last ACTS
- * acts to FILE. `seen` alone then hangs, for a debugger. Place 0 is inside, 1 and 2 wait, 3 and 4 are notified, 5 has signalled, 6
- * enters, and 7 is outside. */
+/* A program that hangs: `seen ACTS FILE` prints where each thread waits, and writes the recording of its last ACTS acts
+ * to FILE. `seen` alone then hangs, for a debugger. Place 0 is inside, 1 and 2 wait, 3 and 4 are notified, 5 has
+ * signalled, 6 enters, and 7 is outside. */
 #define _GNU_SOURCE
 #include "zaulinte_monitor.h"
 #include <pthread.h>
@@ -8,9 +8,9 @@
 
 enum { NONEMPTY, NONFULL, CHANGED, CONDITIONS, PLACES = 8 };
 static zaulinte_monitor m;
-static int items = 1;
+static _Atomic int items = 1;
 
-static void shows(void *data) { fprintf(stderr, "  %d items\n", *(int *)data); }
+static void shows(void *data) { fprintf(stderr, "  %d items\n", *(_Atomic int *)data); }
 static void acts(uint32_t me) {
     static const struct { uint32_t condition; uint64_t priority; } waits[] = {
         {NONEMPTY, 0}, {NONFULL, 7}, {NONFULL, 5}, {CHANGED, 2}, {CHANGED, 1}};
@@ -28,11 +28,15 @@ static void *runs(void *place) {
     acts((uint32_t)(uintptr_t)place);
     return NULL;
 }
-/* Starts the thread of a place, and gives it time to do its part. */
+static bool is_done(uintptr_t place) {
+    if (place == 5) return items == 2; /* the thread of place 0 has done its last part, too */
+    return place == 6 ? m.sleepers > 0 : m.place[place].away != 0;
+}
+/* Starts the thread of a place, and waits until it has done its part. */
 static void starts(uintptr_t place) {
     pthread_t id;
     pthread_create(&id, NULL, runs, (void *)place);
-    usleep(50000);
+    while (!is_done(place)) usleep(1000);
 }
 int main(int argc, char **argv) {
     size_t size = zaulinte_recording_size(argc > 1 ? strtoul(argv[1], NULL, 10) : 9);

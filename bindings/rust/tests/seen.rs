@@ -11,43 +11,53 @@ conditions! {
     enum Mesa { Changed }
 }
 struct Items(u32);
-type Mine = Place<Items, Of, Mesa>;
+type Mine = Monitor<Items, Of, Mesa>;
+type MyPlace = Place<Items, Of, Mesa>;
 type In<'a> = Inside<'a, Items, Of, Mesa>;
 
-/// Starts a thread that enters by the place and acts, and waits until it waits or sleeps.
-fn start(mut place: Mine, acts: impl FnOnce(&mut In<'_>) + Send + 'static) {
+/// Starts a thread that enters by the place and acts, and waits until the monitor shows that the place does `what`.
+fn start(monitor: &Mine, mut place: MyPlace, what: &str, acts: impl FnOnce(&mut In<'_>) + Send + 'static) {
+    let wanted = format!("place {}: {what}", place.number());
     thread::spawn(move || acts(&mut place.enter().unwrap()));
-    sleep(Duration::from_millis(50));
+    while !format!("{monitor:?}").contains(&wanted) {
+        sleep(Duration::from_millis(1));
+    }
 }
 
-/// Places 1 and 2 wait, 3 and 4 are notified, 5 has signalled, 0 is inside, and 6 enters. Place 7 is outside.
-fn hangs(acts: usize) -> Monitor<Items, Of, Mesa> {
+/// Places 1 and 2 wait, 3 and 4 are notified, 5 has signalled, 0 is inside, and 6 enters. Place 7, which is returned, is
+/// outside.
+fn hangs(acts: usize) -> (Mine, MyPlace) {
     let (monitor, mut places) = Monitor::new(Items(1), 8).unwrap();
     monitor.record(&mut places, acts).unwrap();
     let mut left = places.into_iter();
-    let stays = left.next().unwrap();
-    start(left.next().unwrap(), |inside| inside.wait(Of::NonFull, 7).unwrap());
-    start(left.next().unwrap(), |inside| inside.wait(Of::NonFull, 5).unwrap());
-    start(left.next().unwrap(), |inside| inside.wait_mesa(Mesa::Changed, 2).unwrap());
-    start(left.next().unwrap(), |inside| inside.wait_mesa(Mesa::Changed, 1).unwrap());
-    start(stays, |inside| {
+    let mut next = || left.next().unwrap();
+    let stays = next();
+    start(&monitor, next(), "waits", |inside| inside.wait(Of::NonFull, 7).unwrap());
+    start(&monitor, next(), "waits", |inside| inside.wait(Of::NonFull, 5).unwrap());
+    start(&monitor, next(), "waits", |inside| inside.wait_mesa(Mesa::Changed, 2).unwrap());
+    start(&monitor, next(), "waits", |inside| inside.wait_mesa(Mesa::Changed, 1).unwrap());
+    start(&monitor, stays, "waits", |inside| {
         inside.wait(Of::NonEmpty, 0).unwrap();
         inside.broadcast(Mesa::Changed);
         inside.0 += 1;
-        thread::park();
+        loop {
+            thread::park();
+        }
     });
-    start(left.next().unwrap(), |inside| {
+    start(&monitor, next(), "has signalled", |inside| {
         inside.broadcast(Mesa::Changed);
         inside.signal(Of::NonEmpty).unwrap();
     });
-    start(left.next().unwrap(), |_| ());
-    std::mem::forget(left);
-    monitor
+    while !monitor.recording().unwrap().ends_with("broadcast 0 2\n") {
+        sleep(Duration::from_millis(1));
+    }
+    start(&monitor, next(), "enters", |_| ());
+    (monitor, next())
 }
 
 #[test]
 fn debug_shows_what_each_place_does() {
-    let text = format!("{:#?}", hangs(1));
+    let text = format!("{:#?}", hangs(1).0);
     let mut without = String::new();
     for line in text.lines() {
         let end = line.find(", thread").unwrap_or(line.len() - usize::from(line.ends_with(',')));
@@ -84,13 +94,13 @@ enter 5\nsignal 5 0\nnotify 0 2\nnotify 0 2\n";
 
 #[test]
 fn a_recording_is_the_history() {
-    let recording = hangs(100).recording().unwrap();
+    let recording = hangs(100).0.recording().unwrap();
     assert_eq!(recording, format!("monitor 8 3 1\n{HISTORY}"));
 }
 
 #[test]
 fn a_recording_that_overflowed_begins_in_the_state_of_its_ring() {
-    let recording = hangs(1).recording().unwrap();
+    let recording = hangs(1).0.recording().unwrap();
     assert_eq!(recording, format!("monitor 8 3 1\n{START}broadcast 0 2\n"));
 }
 

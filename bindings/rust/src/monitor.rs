@@ -175,7 +175,7 @@ impl<T: Send, C: Condition, M: Condition, P: Port> Monitor<T, C, M, P> {
 
     /// Returns the recording as a script, which the script program replays and the page draws. If the ring overflowed
     /// it begins with acts that bring a new monitor into the state in which the ring begins. Returns nothing if the
-    /// monitor doesn't record, or if acts are recorded too fast to be read. Any thread may call it at any time.
+    /// monitor doesn't record, or if acts are recorded all the time while it reads. Any thread may call it at any time.
     pub fn recording(&self) -> Option<String> {
         let lines = self.0.recorder.get()?.lines(self.0.notes.inside())?;
         let (places, conditions) = (self.0.parking.places(), C::COUNT + M::COUNT);

@@ -24,8 +24,8 @@ fn start(monitor: &Mine, mut place: MyPlace, what: &str, acts: impl FnOnce(&mut 
     }
 }
 
-/// Places 1 and 2 wait, 3 and 4 are notified, 5 has signalled, 0 is inside, and 6 enters. Place 7, which is returned, is
-/// outside.
+/// Places 1 and 2 wait, 3 and 4 are notified, 5 has signalled, 0 is inside, and 6 enters. Place 7, which is returned,
+/// is outside.
 fn hangs(acts: usize) -> (Mine, MyPlace) {
     let (monitor, mut places) = Monitor::new(Items(1), 8).unwrap();
     monitor.record(&mut places, acts).unwrap();
@@ -48,7 +48,7 @@ fn hangs(acts: usize) -> (Mine, MyPlace) {
         inside.broadcast(Mesa::Changed);
         inside.signal(Of::NonEmpty).unwrap();
     });
-    while !monitor.recording().unwrap().ends_with("broadcast 0 2\n") {
+    while !monitor.recording().is_some_and(|acts| acts.ends_with("broadcast 0 2\n")) {
         sleep(Duration::from_millis(1));
     }
     start(&monitor, next(), "enters", |_| ());

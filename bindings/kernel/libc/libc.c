@@ -1,4 +1,4 @@
-/* What the examples, the stress and the door by hand ask of a C library, and what a compiler asks of any. */
+/* What the examples and the stress ask of a C library, and what a compiler asks of any. */
 #include "kernel.h"
 #include <pthread.h>
 #include <sched.h>
@@ -18,13 +18,6 @@ void *memcpy(void *to, const void *from, size_t bytes) {
     __asm__ volatile("rep movsb" : "+D"(at), "+S"(from), "+c"(bytes)::"memory");
     return to;
 }
-void *memmove(void *to, const void *from, size_t bytes) {
-    if ((uintptr_t)to <= (uintptr_t)from) return memcpy(to, from, bytes);
-    volatile char *last = to; /* else the compiler makes this loop a call of memmove */
-    for (size_t i = bytes; i-- > 0;) last[i] = ((const char *)from)[i];
-    return to;
-}
-
 int pthread_create(pthread_t *id, const void *attributes, void *(*body)(void *), void *with) {
     (void)attributes;
     *id = start_thread(body, with);

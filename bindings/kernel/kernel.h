@@ -127,14 +127,6 @@ static inline void check(uint64_t code, const char *call) {
     if (code) fail("%s: %s", call, zaulinte_text(code));
 }
 
-/* memory.c: the archive's memory */
-struct tried {
-    bool is;
-    void *at;
-};
-struct tried rattle_alloc(size_t bytes, size_t align);
-void rattle_dealloc(void *at);
-
 /* the programs, in the order in which main.c runs them */
 void run_handlers(void);
 void run_registers(void);

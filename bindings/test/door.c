@@ -1,7 +1,7 @@
 /* Makes each call of the door once in a case that succeeds, and once for each code that it refuses with. The codes are
- * proved. Tested is that the archive and the header agree with them; that a word of the caller's is written only if the
- * header says so; that places that were given back are given out again, and closed; that no step allocates; and that
- * memory which is refused, at each request in turn, loses no place and no piece. */
+ * proved; the archive and the header have to agree with them. A word of the caller's is written only if the header says
+ * so. Places that were given back are given out again, or closed. No step allocates. If memory is refused, at each
+ * request in turn, no place and no piece is lost. */
 #include "zaulinte_door.h"
 #include <inttypes.h>
 #include <stdbool.h>

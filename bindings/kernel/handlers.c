@@ -1,7 +1,7 @@
 /* Calls from an interrupt handler. At each tick the timer's handler tries to enter a monitor, in which threads wait on
- * one of Hoare's conditions and on a Mesa condition. Inside it makes each call that never blocks; each place writes what
- * it does to the log, which ../test/judge.c judges. The handler also makes calls that are refused: by a thread's place,
- * for example. */
+ * one of Hoare's conditions and on a Mesa condition. Inside it makes each call that never blocks. Each place writes its
+ * calls to a log, which ../test/judge.c judges. The handler also makes calls that are refused: by a thread's place, for
+ * example. */
 #include "kernel.h"
 
 enum { WAITERS = 6, HANDLER = WAITERS, ASKER, SWEEPER, PLACES, HOARE = 0, MESA = 1, EACH = 50, MOST_SECONDS = 60 };

@@ -234,13 +234,14 @@ static void refusals(void) {
 /* each act and each question in a case that succeeds */
 static void acts(void) {
     uint64_t found = 77;
-    opens(4, 2, 1, 0);
+    opens(5, 2, 1, 0);
     comes_to_wait(0, 0, UINT64_MAX);
     comes_to_wait(1, 1, 2);
     comes_to_wait(2, 1, 1);
+    comes_to_wait(4, 1, 2);
     IS(enters(3), 64);
     IS(queue(3, 0), 1);
-    IS(count(3, 1), 2);
+    IS(count(3, 1), 3);
     IS(first(3, 0, &found), 1);
     IS(found, UINT64_MAX);
     IS(signals(3, 0), 0);
@@ -253,17 +254,19 @@ static void acts(void) {
     IS(found, 77);
     IS(signals(3, 0), 64);
     IS(notifies(3, 1), 1);
-    IS(broadcasts(3, 1), 1);
+    IS(count(3, 1), 2);
+    IS(broadcasts(3, 1), 2);
     IS(broadcasts(3, 1), 0);
     IS(exits(3, 0), 2);
     IS(state(3), 0);
     returns_and_leaves(2, 1);
-    returns_and_leaves(1, 64);
+    returns_and_leaves(1, 4);
+    returns_and_leaves(4, 64);
     comes_to_wait(0, 0, 0);
     IS(enters(3), 64);
     IS(exits(3, 0), 0);
     returns_and_leaves(0, 64);
-    closes(4, 0);
+    closes(5, 0);
 }
 
 /* A door isn't closed while a place is out, in any state, or wasn't collected. A place that was given back is given out
@@ -323,54 +326,45 @@ static void all_given_out_again(void) {
     closes(64, 0);
 }
 
-/* Returns the number of requests that the call makes, if none fails. Each of them fails in turn, alone and with all
- * after it: the call returns 111, and there are as many pieces as before. */
+/* Each request for memory fails in turn, until a call makes fewer requests: before that it returns 111, and there are as
+ * many pieces as before. */
 static void make_without_memory(uint64_t places) {
-    refuse_none();
-    IS(zaulinte_door_make(&door, places, 8, 4, 5), 0);
-    unsigned all = requests;
+    uint64_t code = 111;
+    unsigned k = 0;
+    while (code == 111) {
+        k++, refuse(k, k);
+        code = zaulinte_door_make(&door, places, 8, 4, 5);
+        if (code == 111) IS(pieces, 0), answers_of_no_door(&door);
+    }
+    IS(code, 0);
+    IS(k > 1, 1);
     closes(0, 5);
-    IS(all > 0, 1);
-    for (unsigned k = 1; k <= all; k++) {
-        for (int alone = 0; alone < 2; alone++) {
-            refuse(k, alone ? k : ~0u);
-            IS(zaulinte_door_make(&door, places, 8, 4, 5), 111);
-            IS(pieces, 0);
-            refuse_none();
-            answers_of_no_door(&door);
-        }
-    }
 }
-/* after a refusal the place went back: any number that isn't out may be next */
+/* the place went back at each refusal, so any number that isn't out may be next */
 static void given_out_without_memory(int i, int places) {
-    unsigned before = pieces, all = 0;
-    for (unsigned k = 1; !all; k++) {
-        for (int alone = 0; alone < 2; alone++) {
-            refuse(k, alone ? k : ~0u);
-            uint64_t code = zaulinte_door_give_out(&door, &place[i]);
-            unsigned asked = requests;
-            refuse_none();
-            if (code < 64 && asked < k) {
-                all = asked; /* none failed */
-                is_out(i, places, code);
-                break;
-            }
-            IS(code, 111);
-            IS(pieces, before);
-            answers_of_no_place(&place[i]);
-        }
+    uint64_t code = 111;
+    unsigned before = pieces, k = 0;
+    while (code == 111) {
+        k++, refuse(k, k);
+        code = zaulinte_door_give_out(&door, &place[i]);
+        if (code == 111) IS(pieces, before), answers_of_no_place(&place[i]);
     }
-    IS(state(i), 0);
+    IS(k > 1, 1);
+    is_out(i, places, code);
 }
 static void memory_refused(void) {
+    zaulinte_door_place more = {0, 0, 0};
     make_without_memory(1);
     make_without_memory(64);
+    refuse_none();
     IS(zaulinte_door_make(&door, 4, 1, 0, 5), 0);
     for (int round = 0; round < 2; round++) {
         for (int k = 0; k < 4; k++) given_out_without_memory(k, 4);
+        IS(zaulinte_door_give_out(&door, &more), 114);
         numbers(4);
         for (int k = 0; k < 4; k++) IS(gives_back(k), 0);
     }
+    refuse_none();
     for (int k = 0; k < 4; k++) gives_out(k, 4);
     refuse_all();
     closes(4, 5);

@@ -32,17 +32,6 @@ int pthread_detach(pthread_t id) {
     (void)id;
     return 0;
 }
-static spin_lock *lock_of(pthread_mutex_t *m) { return (spin_lock *)&m->is_held; }
-int pthread_mutex_lock(pthread_mutex_t *m) {
-    uint64_t flags = lock(lock_of(m));
-    m->flags = flags;
-    return 0;
-}
-int pthread_mutex_unlock(pthread_mutex_t *m) {
-    uint64_t flags = m->flags;
-    unlock(lock_of(m), flags);
-    return 0;
-}
 int sched_yield(void) {
     yield();
     return 0;

@@ -6,7 +6,7 @@
 #include <stddef.h>
 
 /* The vectors of the interrupts. */
-enum { TIMER = 32, DISK = 46, NO_DEVICE = 47, SLICE_ENDS = 64, CALL = 65, SPURIOUS = 255 };
+enum { TIMER = 32, SLICE_ENDS = 64, CALL = 65, SPURIOUS = 255 };
 
 /* A core. While a thread runs, its interrupts are on, and it may be taken to another core at any instruction. */
 typedef struct core {
@@ -79,11 +79,11 @@ static inline void unlock(spin_lock *l, uint64_t flags) {
 void call_core(uint32_t number); /* interrupts another core, so that it takes a ready thread */
 int64_t nanoseconds(void);
 void end_slice_interrupt(void);
-void end_line_interrupt(uint64_t vector);
+void end_tick(void);
 _Noreturn void stop(uint32_t status); /* ends QEMU, whose status is then 2 * status + 1 */
 
 /* tables.c: what the processor asks of a kernel, and the interrupts */
-extern _Atomic uint64_t ticks, disk_interrupts;
+extern _Atomic uint64_t ticks;
 /* Makes the timer's handler, on the first core, call this function at each tick; with a null pointer it calls none. On
  * return no function that was set earlier is running. */
 void tick_by(void (*handler)(void));
@@ -127,29 +127,10 @@ static inline void check(uint64_t code, const char *call) {
     if (code) fail("%s: %s", call, zaulinte_text(code));
 }
 
-/* memory.c: the archive's memory */
-struct tried {
-    bool is;
-    void *at;
-};
-struct tried rattle_alloc(size_t bytes, size_t align);
-void rattle_dealloc(void *at);
-
-/* disk.c: the first ATA drive. For one thread at a time, as the disk head ensures. */
-enum { SECTOR = 512 };
-typedef struct disk_size {
-    uint32_t cylinders, heads, sectors;
-} disk_size;
-disk_size start_disk(void);
-void disk_interrupted(void);
-void read_disk(uint32_t block, void *to);
-
 /* the programs, in the order in which main.c runs them */
 void run_handlers(void);
-void run_races(void);
 void run_registers(void);
 void run_clock(void);
-void run_head(void);
 void *memset(void *to, int is, size_t bytes);
 void *memcpy(void *to, const void *from, size_t bytes);
 #endif

@@ -1,5 +1,5 @@
-/* The machine: cores and time of a PC. The timer (8254) and the disk interrupt the first core through the 8259s. Each
- * core's own timer, in its local APIC, ends the slices. */
+/* The machine: cores and time of a PC. The timer (8254) interrupts the first core through an 8259. Each core's own
+ * timer, in its local APIC, ends the slices. */
 #include "kernel.h"
 
 enum { TRAMPOLINE = 0x8000, PER_SECOND = 1000, STEPS_PER_SECOND = 1193182 };
@@ -26,7 +26,7 @@ static void send(uint32_t to, uint32_t what) {
 void call_core(uint32_t number) { send(cores[number].apic, CALL); }
 void end_slice_interrupt(void) { *apic(END) = 0; }
 static void start_apic(bool first) {
-    *apic(LINE_0) = first ? 0x700 : 0x10000; /* the 8259s interrupt the first core */
+    *apic(LINE_0) = first ? 0x700 : 0x10000; /* the 8259 interrupts the first core */
     *apic(SPURIOUS_AT) = 0x100 | SPURIOUS;
     *apic(TIMER_BY) = 3;
     *apic(TIMER_AS) = 0x20000 | SLICE_ENDS;
@@ -71,18 +71,12 @@ static void measure_time(void) {
     counter_from = counter();
 }
 
-/* The 8259s: vectors from 32 on. The timer, the second of the two, and the disk may interrupt. */
-static void start_lines(void) {
-    static const uint8_t first[] = {0x11, 32, 4, 1}, second[] = {0x11, 40, 2, 1};
-    for (int i = 0; i < 4; i++) out8(i ? 0x21 : 0x20, first[i]), out8(i ? 0xa1 : 0xa0, second[i]);
-    out8(0x21, 0xff & ~(1 << 0 | 1 << 2));
-    out8(0xa1, 0xff & ~(1 << 6));
-}
-void end_line_interrupt(uint64_t vector) {
-    if (vector >= 40) out8(0xa0, 0x20);
-    out8(0x20, 0x20);
-}
+void end_tick(void) { out8(0x20, 0x20); }
+/* The first 8259: vectors from 32 on. Only the timer may interrupt. */
 static void start_timer(void) {
+    static const uint8_t words[] = {0x11, TIMER, 4, 1};
+    for (int i = 0; i < 4; i++) out8(i ? 0x21 : 0x20, words[i]);
+    out8(0x21, 0xff & ~1);
     uint32_t steps = STEPS_PER_SECOND / PER_SECOND;
     out8(0x43, 0x34);
     out8(0x40, (uint8_t)steps);
@@ -131,7 +125,6 @@ void start_core(uint32_t number) {
         measure_time();
         start_others();
         wait_for_others();
-        start_lines();
         start_timer();
         start_thread(run_first, NULL);
     } else {

@@ -1,11 +1,12 @@
 /* What runs, in order: the examples and the stress of ../, unchanged; calls from a handler; the registers; the alarm
- * clock; the disk. */
+ * clock. */
 #include "kernel.h"
 
 int bounded_buffer_main(void);
 int single_resource_main(void);
 int alarm_clock_main(void);
 int time_limit_main(void);
+int disk_head_main(void);
 int stress_main(int words, char **word);
 void run_all(void);
 
@@ -31,7 +32,7 @@ static void say_counts(void) {
     for (uint32_t i = 0; i < cores_up; i++)
         say("core %u: %lu threads preempted, %lu switches, %lu calls by other cores\n", i, cores[i].preempted,
             cores[i].switched, cores[i].called);
-    say("timer: %lu ticks; disk: %lu interrupts\n", ticks, disk_interrupts);
+    say("timer: %lu ticks\n", ticks);
 }
 void run_all(void) {
     say("cores: %u\n", cores_up);
@@ -39,16 +40,15 @@ void run_all(void) {
     run_example("single_resource.c", single_resource_main);
     run_example("alarm_clock.c", alarm_clock_main);
     run_example("time_limit.c", time_limit_main);
+    run_example("disk_head.c", disk_head_main);
     run_stress();
     run_handlers();
-    run_races();
 #ifdef PLAIN
     run_registers();
 #else
     say("SSE and the floating point unit: off\n");
 #endif
     run_clock();
-    run_head();
     say_counts();
     say("all is well, after %ld ms\n", nanoseconds() / 1000000);
     stop(16);

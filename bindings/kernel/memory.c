@@ -1,6 +1,12 @@
 /* The archive's memory: ../c/zaulinte_heap.c under a lock. Fails if a handler makes or frees a monitor. */
 #include "kernel.h"
 
+struct tried {
+    bool is;
+    void *at;
+};
+struct tried rattle_alloc(size_t bytes, size_t align);
+void rattle_dealloc(void *at);
 struct tried heap_alloc(size_t bytes, size_t align);
 void heap_dealloc(void *at);
 

@@ -9,7 +9,7 @@ void interrupt(struct frame *f);
 extern char vectors[];
 extern uint64_t gdt[];
 
-_Atomic uint64_t ticks, disk_interrupts;
+_Atomic uint64_t ticks;
 static void (*_Atomic on_tick)(void);
 void tick_by(void (*handler)(void)) {
     atomic_store(&on_tick, handler);
@@ -66,14 +66,8 @@ static void handle(uint64_t vector) {
     switch (vector) {
     case TIMER:
         handle_tick();
-        end_line_interrupt(TIMER);
+        end_tick();
         break;
-    case DISK:
-        atomic_fetch_add(&disk_interrupts, 1);
-        disk_interrupted();
-        end_line_interrupt(DISK);
-        break;
-    case NO_DEVICE: end_line_interrupt(TIMER); break; /* of the second 8259: the first takes it for its own */
     case SLICE_ENDS:
     case CALL: end_slice_interrupt();
     }

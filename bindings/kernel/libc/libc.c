@@ -1,4 +1,4 @@
-/* What the examples, the stress and the door by hand ask of a C library, and what a compiler asks of any. */
+/* What the examples and the stress ask of a C library, and what a compiler asks of any. */
 #include "kernel.h"
 #include <pthread.h>
 #include <sched.h>
@@ -18,13 +18,6 @@ void *memcpy(void *to, const void *from, size_t bytes) {
     __asm__ volatile("rep movsb" : "+D"(at), "+S"(from), "+c"(bytes)::"memory");
     return to;
 }
-void *memmove(void *to, const void *from, size_t bytes) {
-    if ((uintptr_t)to <= (uintptr_t)from) return memcpy(to, from, bytes);
-    volatile char *last = to; /* else the compiler makes this loop a call of memmove */
-    for (size_t i = bytes; i-- > 0;) last[i] = ((const char *)from)[i];
-    return to;
-}
-
 int pthread_create(pthread_t *id, const void *attributes, void *(*body)(void *), void *with) {
     (void)attributes;
     *id = start_thread(body, with);
@@ -37,17 +30,6 @@ int pthread_join(pthread_t id, void **result) {
 }
 int pthread_detach(pthread_t id) {
     (void)id;
-    return 0;
-}
-static spin_lock *lock_of(pthread_mutex_t *m) { return (spin_lock *)&m->is_held; }
-int pthread_mutex_lock(pthread_mutex_t *m) {
-    uint64_t flags = lock(lock_of(m));
-    m->flags = flags;
-    return 0;
-}
-int pthread_mutex_unlock(pthread_mutex_t *m) {
-    uint64_t flags = m->flags;
-    unlock(lock_of(m), flags);
     return 0;
 }
 int sched_yield(void) {

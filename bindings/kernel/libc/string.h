@@ -3,5 +3,4 @@
 #include <stddef.h>
 void *memset(void *to, int is, size_t bytes);
 void *memcpy(void *to, const void *from, size_t bytes);
-void *memmove(void *to, const void *from, size_t bytes);
 #endif

@@ -8,32 +8,23 @@
 #include <stdlib.h>
 #include <unistd.h>
 
-static void note(const char *what, size_t size) {
-    const char *name = getenv("REQUESTS");
-    char line[64];
-    int length = snprintf(line, sizeof line, "%s %zu\n", what, size);
-    int file = name ? open(name, O_WRONLY | O_CREAT | O_APPEND, 0644) : -1;
-    if (file < 0) return;
-    if (write(file, line, length) != length) abort();
-    close(file);
-}
-
-static int is_refused(void) {
+static int is_refused(const char *what, size_t size) {
     static long made;
-    const char *number = getenv("REFUSE");
-    return __atomic_add_fetch(&made, 1, __ATOMIC_SEQ_CST) == (number ? atol(number) : 0);
+    const char *number = getenv("REFUSE"), *name = getenv("REQUESTS");
+    int refused = __atomic_add_fetch(&made, 1, __ATOMIC_SEQ_CST) == (number ? atol(number) : 0);
+    char line[64];
+    int length = snprintf(line, sizeof line, "%s%s %zu\n", refused ? "refused " : "", what, size);
+    int file = name ? open(name, O_WRONLY | O_CREAT | O_APPEND, 0644) : -1;
+    if (file >= 0 && (write(file, line, length) != length || close(file) != 0)) abort();
+    return refused;
 }
 
 void *malloc(size_t size) {
     void *(*real)(size_t) = (void *(*)(size_t))dlsym(RTLD_NEXT, "malloc");
-    int refused = is_refused();
-    note(refused ? "refused malloc" : "malloc", size);
-    return refused ? NULL : real(size);
+    return is_refused("malloc", size) ? NULL : real(size);
 }
 
 void *realloc(void *old, size_t size) {
     void *(*real)(void *, size_t) = (void *(*)(void *, size_t))dlsym(RTLD_NEXT, "realloc");
-    int refused = is_refused();
-    note(refused ? "refused realloc" : "realloc", size);
-    return refused ? NULL : real(old, size);
+    return is_refused("realloc", size) ? NULL : real(old, size);
 }

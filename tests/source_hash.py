@@ -5,16 +5,14 @@ What counts: the files in src, specs and proofs of each of these crates, without
 stores in stdin and stdout, and their lines of crates.txt. The kit's version doesn't count.
 
 The records of the archives and the programs (tests/archives) and of the page's module (playground/build) have this
-hash, and tools/program compares it. With its edits added it is the hash of a folder of wrong bodies
-(tests/mutants/run).
+hash, and tools/program compares it.
 """
 import hashlib
-import os
+import pathlib
 import re
 import sys
 
-PARTS = ('src', 'specs', 'proofs')
-STORED = ('stdin', 'stdout')
+CRATES = pathlib.Path(__file__).resolve().parent.parent / 'crates'
 # of each language a literal in quotes, which is kept, or else a comment
 COMMENTS = {'.rt': re.compile(rb'("(?:\\.|[^"\\])*"|\'(?:\\.|[^\'\\\n])\')|//[^\n]*', re.S),
             '.antt': re.compile(rb'("(?:\\.|[^"\\\n])*")|(?<!\S)--[^\n]*')}
@@ -22,8 +20,40 @@ FILE_NAME = re.compile(r'[\w-][\w.-]*')  # an editor's own files have other name
 CRATE_LINE = re.compile(r'^(\w+)([^:#\n]*):([^#\n]*)', re.M)
 
 
-class Unlisted(Exception):
-    """The crates that crates.txt doesn't list."""
+def listed():
+    """Returns, of each crate, the options before the colon of its line of crates.txt, and the libraries after it."""
+    lines = CRATE_LINE.findall((CRATES.parent / 'crates.txt').read_text())
+    return {crate: (options.split(), libraries.split()) for crate, options, libraries in lines}
+
+
+def and_below(crates):
+    """Returns the crates and all crates below them, sorted. A library that crates.txt doesn't list is the kit's."""
+    lines, found, wanted = listed(), set(), set(crates)
+    if wanted - lines.keys():
+        sys.exit(f'source_hash: crates.txt lists no {", ".join(sorted(wanted - lines.keys()))}')
+    while wanted:
+        found |= wanted
+        wanted = {library for crate in wanted for library in lines[crate][1]} & lines.keys() - found
+    return sorted(found)
+
+
+def files_of(crate):
+    """Returns the names and the paths of the crate's files that count, sorted."""
+    folder = CRATES / crate
+    paths = [folder / 'stdin', folder / 'stdout']
+    for part in ('src', 'specs', 'proofs'):
+        paths += (folder / part).rglob('*')
+    files = [path for path in paths if path.is_file() and FILE_NAME.fullmatch(path.name)]
+    return sorted((str(path.relative_to(CRATES.parent)), path) for path in files)
+
+
+def code_of(path):
+    """Returns the bytes of a file without what its prover doesn't read: comments and empty lines."""
+    data, comments = path.read_bytes(), COMMENTS.get(path.suffix)
+    if not comments:
+        return data
+    lines = comments.sub(lambda found: found[1] or b'', data).splitlines()
+    return b''.join(line.rstrip() + b'\n' for line in lines if line.strip())
 
 
 def add(digest, name, data):
@@ -31,86 +61,25 @@ def add(digest, name, data):
     digest.update(f'{name}\0{len(data)}\0'.encode() + data)
 
 
-def code_of(path, data):
-    """Returns the bytes of a file without what its prover doesn't read: comments and empty lines."""
-    comments = COMMENTS.get(os.path.splitext(path)[1])
-    if not comments:
-        return data
-    lines = comments.sub(lambda found: found[1] or b'', data).splitlines()
-    return b''.join(line.rstrip() + b'\n' for line in lines if line.strip())
+def hash_of_crate(crate, line):
+    """Returns a hash of the crate's line of crates.txt, of its sources, specs and proofs, and of its stored run."""
+    digest = hashlib.sha256()
+    add(digest, crate, repr(line).encode())
+    for name, path in files_of(crate):
+        add(digest, name, code_of(path))
+    return digest.digest()
 
 
-def add_file(digest, root, path):
-    """Adds the code of a file to a digest."""
-    with open(os.path.join(root, path), 'rb') as file:
-        add(digest, path, code_of(path, file.read()))
-
-
-class Sources:
-    """The sources of a repository, here or in a copy. Each crate is read once."""
-
-    def __init__(self, root):
-        """Reads the line of each crate in crates.txt: the options before its colon, and the libraries after it."""
-        self.root = root
-        with open(os.path.join(root, 'crates.txt'), encoding='utf-8') as file:
-            lines = CRATE_LINE.findall(file.read())
-        self.lines = {crate: (options.split(), libraries.split()) for crate, options, libraries in lines}
-        self.hashes = {}
-
-    def hash_of_crate(self, crate):
-        """Returns a hash of the crate's line of crates.txt, of its sources, specs and proofs, and of its stored run."""
-        if crate not in self.hashes:
-            digest = hashlib.sha256()
-            add(digest, crate, repr(self.lines.get(crate)).encode())
-            for path in self.files_of(crate):
-                add_file(digest, self.root, path)
-            self.hashes[crate] = digest.digest()
-        return self.hashes[crate]
-
-    def files_of(self, crate):
-        """Returns the paths of the crate's files that count, sorted."""
-        folder = os.path.join(self.root, 'crates', crate)
-        parts = [os.path.join(folder, part) for part in PARTS]
-        files = [(at, name) for part in parts for at, _, names in os.walk(part) for name in names]
-        files += [(folder, name) for name in STORED]
-        paths = [os.path.join(at, name) for at, name in files if FILE_NAME.fullmatch(name)]
-        return sorted(os.path.relpath(path, self.root) for path in paths if os.path.exists(path))
-
-    def and_below(self, crates):
-        """Returns the crates and all crates below them, sorted. A library that crates.txt doesn't list is the kit's."""
-        found, wanted = set(), set(crates)
-        if wanted - self.lines.keys():
-            raise Unlisted(f'crates.txt lists no {", ".join(sorted(wanted - self.lines.keys()))}')
-        while wanted:
-            found |= wanted
-            wanted = {library for name in wanted for library in self.lines.get(name, ([], []))[1]}
-            wanted = wanted & self.lines.keys() - found
-        return sorted(found)
-
-    def digest_of(self, crates):
-        """Returns a digest of the crates and all crates below them."""
-        digest = hashlib.sha256()
-        for name in self.and_below(crates):
-            add(digest, name, self.hash_of_crate(name))
-        return digest
-
-
-def short(digest):
-    """Returns a digest as it is recorded."""
+def hash_of(crates):
+    """Returns a hash of the crates and all crates below them, as it is recorded."""
+    digest, lines = hashlib.sha256(), listed()
+    for crate in and_below(crates):
+        add(digest, crate, hash_of_crate(crate, lines[crate]))
     return digest.hexdigest()[:16]
 
 
-def main(words):
-    if not words or words[0].startswith('-'):
-        print(__doc__.strip())
-        return 0 if words == ['--help'] else 2
-    try:
-        print(short(Sources(os.path.dirname(os.path.dirname(os.path.abspath(__file__)))).digest_of(words)))
-    except Unlisted as fault:
-        print(f'source_hash: {fault}', file=sys.stderr)
-        return 1
-    return 0
-
-
 if __name__ == '__main__':
-    sys.exit(main(sys.argv[1:]))
+    if len(sys.argv) < 2 or sys.argv[1].startswith('-'):
+        print(__doc__.strip())
+        sys.exit(0 if sys.argv[1:] == ['--help'] else 2)
+    print(hash_of(sys.argv[1:]))

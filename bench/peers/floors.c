@@ -1,9 +1,8 @@
-/* The floors beside the columns: the machine's times for a locked operation, for a lock and an unlock of a mutex, for a
-   cache line from one core to another, for a wake-up by the system and for a yield. Then a plain ticket lock, which has
-   nothing but the order by tickets.
+/* The floors beside the columns: the machine's times for a locked operation, for a cache line from one core to another,
+   for a wake-up by the system and for a yield. Then a plain ticket lock, which has nothing but the order by tickets.
 
      gcc -O2 -pthread -o build/floors peers/floors.c && build/floors [TURNS]
-     build/floors --mutex [TURNS]                   only the mutex, as a row of bench/run
+     build/floors --mutex [TURNS]                   a mutex, locked and unlocked, as a row of bench/run
      build/floors --mutex MICROS THREADS VISITS     visits to the mutex */
 #define _GNU_SOURCE
 #include <linux/futex.h>
@@ -55,9 +54,6 @@ static cell word __attribute__((aligned(64)));
 static void locked_operations(void) {
     EACH("a pause", __builtin_ia32_pause());
     EACH("an exchange", __atomic_exchange_n(&word, 0, __ATOMIC_SEQ_CST));
-    EACH("a compare and exchange", uint64_t none = 0; __atomic_compare_exchange_n(&word, &none, 0, 0, __ATOMIC_SEQ_CST, __ATOMIC_SEQ_CST));
-    EACH("both: an enter and a leave", uint64_t none = 0;
-         __atomic_compare_exchange_n(&word, &none, 1, 0, __ATOMIC_SEQ_CST, __ATOMIC_SEQ_CST); __atomic_exchange_n(&word, 0, __ATOMIC_SEQ_CST));
 }
 
 /* a mutex, locked and unlocked while a second thread exists: with one thread the C library locks nothing */
@@ -77,11 +73,6 @@ static double mutex_pair(uint64_t turns) {
     pthread_create(&id, NULL, locks, (void *)(uintptr_t)turns);
     pthread_join(id, NULL);
     return (now() - start) / turns;
-}
-static void mutexes(void) {
-    static double all[101];
-    for (int round = 0; round < 101; round++) all[round] = mutex_pair(100000);
-    show("a mutex: a lock and an unlock", all, 101);
 }
 
 /* two threads on two cores write the cache line in turn */
@@ -146,16 +137,13 @@ static void wakes(void) {
 static void yields(void) {
     static double all[100000];
     int count = 0;
-    double sum = 0, most = 0, start = now();
+    double start = now();
     while (count < 100000 && now() - start < 2e9) {
         double from = now();
         sched_yield();
-        double each = all[count++] = now() - from;
-        sum += each;
-        if (each > most) most = each;
+        all[count++] = now() - from;
     }
     show("a yield", all, count);
-    printf("%-34s %.1f\n%-34s %.1f\n", "a yield, in the mean", sum / count, "a yield, the longest", most);
 }
 
 /* a ticket lock: the next thread polls, and yields after 500 polls; a thread further back yields at once */
@@ -195,13 +183,12 @@ int main(int argc, char **argv) {
         return 0;
     }
     locked_operations();
-    mutexes();
     cpu_set_t any;
     sched_getaffinity(0, sizeof any, &any);
     for (int core = 1; core < 4 && CPU_ISSET(core, &any); core++) transfers(core);
     sched_setaffinity(0, sizeof any, &any);
     wakes();
     yields();
-    for (int threads = 1; threads <= 8; threads *= 2) tickets(threads, threads == 1 ? turns : turns / 10);
+    for (int threads = 4; threads <= 8; threads *= 2) tickets(threads, turns / 10);
     return 0;
 }

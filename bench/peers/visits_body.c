@@ -1,11 +1,11 @@
 /* Visits of some length: each thread works inside, leaves, and works outside as long; work polls the clock. The file
    that includes this one defines `monitor`, whose `value` is the time of the last leave, and make, enter and leave.
-   `PROGRAM MICROS THREADS VISITS` prints the time of a visit; how late threads entered that had to wait, which is the
-   time since the place before left; and how long they waited in all. */
+   `PROGRAM MICROS THREADS VISITS` prints the time of a visit, and how late threads entered that had to wait, in the
+   median: the time since the place before left. */
 typedef struct {
     monitor *m;
     int me;
-    uint64_t length, visits, *lates, late, waited;
+    uint64_t length, visits, *lates, late;
 } visitor;
 static uint64_t nanos(void) {
     struct timespec t;
@@ -24,10 +24,7 @@ static void *visit_many(void *p) {
         work(v->length);
         v->m->value = nanos();
         leave(v->m, v->me);
-        if (before > asked) {
-            v->lates[v->late++] = entered > before ? entered - before : 0;
-            v->waited += entered - asked;
-        }
+        if (before > asked) v->lates[v->late++] = entered > before ? entered - before : 0;
         work(v->length);
     }
     return NULL;
@@ -45,21 +42,19 @@ static int show_visits(char **words) {
     pthread_t ids[MOST];
     if (!lates || threads > MOST) return 1;
     make(&m);
-    uint64_t start = nanos(), late = 0, waited = 0;
+    uint64_t start = nanos(), late = 0;
     for (uint64_t i = 0; i < threads; i++) {
-        all[i] = (visitor){&m, (int)i, length, visits, lates + i * visits, 0, 0};
+        all[i] = (visitor){&m, (int)i, length, visits, lates + i * visits, 0};
         pthread_create(&ids[i], NULL, visit_many, &all[i]);
     }
     for (uint64_t i = 0; i < threads; i++) {
         pthread_join(ids[i], NULL);
         memmove(lates + late, all[i].lates, all[i].late * sizeof *lates);
         late += all[i].late;
-        waited += all[i].waited;
     }
-    uint64_t spent = nanos() - start, last = late ? late - 1 : 0;
+    uint64_t spent = nanos() - start;
     qsort(lates, late, sizeof *lates, by_time);
     printf("visit %.0f ns\n", (double)spent / (double)(threads * visits));
-    printf("late_median %.0f ns\nlate_99 %.0f ns\n", (double)lates[last / 2], (double)lates[last * 99 / 100]);
-    printf("late_most %.0f ns\nwaited %.0f ns\n", (double)lates[last], (double)waited);
+    printf("late_median %.0f ns\n", (double)lates[late ? (late - 1) / 2 : 0]);
     return 0;
 }

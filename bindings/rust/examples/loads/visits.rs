@@ -1,6 +1,6 @@
 //! Visits of some length: each thread works inside, leaves, and works outside as long; work polls the clock. The data
-//! are the time of the last leave. `PROGRAM MICROS THREADS VISITS` prints the time of a visit; how late threads entered
-//! that had to wait, which is the time since the place before left; and how long they waited in all.
+//! are the time of the last leave. `PROGRAM MICROS THREADS VISITS` prints the time of a visit, and how late threads
+//! entered that had to wait, in the median: the time since the place before left.
 use std::thread;
 use std::time::{Duration, Instant};
 
@@ -9,13 +9,6 @@ pub struct Visits {
     pub threads: usize,
     each: u64,
     start: Instant,
-}
-
-// How late each entry was that had to wait, and how long all of them took, in nanoseconds.
-#[derive(Default)]
-struct Met {
-    lates: Vec<u64>,
-    waited: u64,
 }
 
 impl Visits {
@@ -35,9 +28,10 @@ impl Visits {
         while start.elapsed() < self.length {}
     }
 
-    // The visits of one thread. `visit` enters, calls its argument with the data and leaves.
-    fn make(&self, mut visit: impl FnMut(&mut dyn FnMut(&mut u64))) -> Met {
-        let mut met = Met::default();
+    // Makes the visits of one thread. `visit` enters, calls its argument with the data and leaves. Returns how late each
+    // entry was that had to wait, in nanoseconds.
+    fn make(&self, mut visit: impl FnMut(&mut dyn FnMut(&mut u64))) -> Vec<u64> {
+        let mut lates = vec![];
         for _ in 0..self.each {
             let (asked, mut entered, mut before) = (self.now(), 0, 0);
             visit(&mut |left| {
@@ -46,28 +40,23 @@ impl Visits {
                 *left = self.now();
             });
             if before > asked {
-                met.lates.push(entered.saturating_sub(before));
-                met.waited += entered - asked;
+                lates.push(entered.saturating_sub(before));
             }
             self.work();
         }
-        met
+        lates
     }
 
     /// Makes the visits, with a thread for each place, and prints the figures.
     pub fn show<P: Send>(&self, places: Vec<P>, visit: impl Fn(&mut P, &mut dyn FnMut(&mut u64)) + Sync) {
         let (began, visit) = (self.now(), &visit);
-        let all: Vec<Met> = thread::scope(|s| {
+        let mut lates: Vec<u64> = thread::scope(|s| {
             let run = |mut place: P| s.spawn(move || self.make(|inside| visit(&mut place, inside)));
             let threads: Vec<_> = places.into_iter().map(run).collect();
-            threads.into_iter().map(|thread| thread.join().unwrap()).collect()
+            threads.into_iter().flat_map(|thread| thread.join().unwrap()).collect()
         });
         println!("visit {:.0} ns", (self.now() - began) as f64 / (self.threads as u64 * self.each) as f64);
-        let waited: u64 = all.iter().map(|met| met.waited).sum();
-        let mut lates: Vec<u64> = all.into_iter().flat_map(|met| met.lates).collect();
         lates.sort_unstable();
-        let part = |hundredths: usize| lates.get(lates.len().saturating_sub(1) * hundredths / 100).unwrap_or(&0);
-        println!("late_median {} ns\nlate_99 {} ns\nlate_most {} ns", part(50), part(99), part(100));
-        println!("waited {waited} ns");
+        println!("late_median {} ns", lates.get(lates.len().saturating_sub(1) / 2).unwrap_or(&0));
     }
 }

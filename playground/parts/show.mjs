@@ -1,6 +1,6 @@
 // One run of a script on the page: a sentence on the step, the data with rest and ready, the lists, and the lanes.
 import { MOST_CONDITIONS, MOST_PLACES, NOBODY, all, is_refused } from "./book.mjs";
-import { ROW, file, mark, picture } from "./picture.mjs";
+import { LEGEND, ROW, file, mark, picture } from "./picture.mjs";
 import { HIGH, WIDE } from "./scenes.mjs";
 import { data_after, owed, waiting_priorities } from "./schedulers.mjs";
 import { answer_text } from "./script.mjs";
@@ -31,12 +31,6 @@ export function names_of(labels, scheduler) {
     const chip = (at) => labels?.chips?.[at] ?? labels?.places?.[at] ?? `${at}`;
     return { place, condition, chip };
 }
-
-const LEGEND = [
-    ["inside", "inside"], ["waits", "waits: condition, priority"], ["signals", "signalled, waits to return"],
-    ["called", "called: notified; 1 resumes first"], ["on", "a waiter resumes"], ["back", "a signaller returns"],
-    ["calls", "a notification"],
-];
 
 // Returns the places that were refused an enter because the monitor wasn't free, and did nothing since.
 function refused_at_enter(answers) {
@@ -84,7 +78,7 @@ export class Show {
         this.heads = make("div", { class: "heads", "aria-hidden": "true" });
         const corner = make("div", { class: "corner", "aria-hidden": "true" }, "step", make("span", {}, "answer"));
         this.scroll = make("div", { class: "card chart" }, corner, this.heads, this.steps, this.lanes);
-        const spans = LEGEND.map(([kind, text]) => make("span", { class: `l-${kind}` }, text));
+        const spans = LEGEND.map(([kind, , text]) => make("span", { class: `l-${kind.split(" ").at(-1)}` }, text));
         const legend = make("p", { class: "legend", "aria-hidden": "true" }, ...spans);
         const first = make("div", {}, this.banner, ...controls, this.data, this.stage);
         const left = make("div", { class: "column" }, first, ...under[0]);
@@ -150,12 +144,9 @@ export class Show {
         this.build_stage();
     }
 
-    // Returns the lanes with the steps as the text of an SVG file, or null if there are none.
+    // Returns the text of an SVG file, or null.
     file() {
-        const { answers, sizes } = this.ran;
-        if (!this.ran.state(0) || answers.length === 0) return null;
-        const states = all(answers.length + 1).map((at) => this.ran.state(at));
-        return file(states, sizes, answers.map((it) => `${it.text} → ${answer_text(it)}`));
+        return file(this.ran, document.getElementById("picture-style").textContent);
     }
 
     build_stage() {

@@ -132,8 +132,7 @@ export class Calls {
 
     // Shows what the call of a button would return. A screen reader reads it with the button's name.
     hint(text, is_no) {
-        $("call-message").textContent = "";
-        $("call-hint").textContent = text;
+        $("call-hint").textContent = text === $("call-message").textContent ? "" : text;
         $("call-hint").classList.toggle("refused", is_no);
     }
 

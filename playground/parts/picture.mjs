@@ -9,7 +9,7 @@ const MARGIN = 16; // of a file
 const SAMPLE = 84; // the width of a sample in a file's legend
 
 // What the shapes mean: the class, the text of a sample, the meaning. An arrow has no text.
-export const LEGEND = [
+const LEGEND = [
     ["inside", "inside", "is inside"], ["waits", "c0 p5", "waits: condition, priority"],
     ["signals", "signals", "signalled, waits to return"], ["called", "called 1", "was notified; 1 resumes first"],
     ["arrow", "", "a waiter resumes"], ["arrow back", "", "a signaller returns"], ["arrow call", "", "a notification"],
@@ -145,21 +145,30 @@ export function mark(svg, at) {
 
 const word = (kind, x, y, inner) => `<text class="${kind}" x="${x}" y="${y}">${inner}</text>`;
 
-// Returns { shapes, width, height }: what the shapes mean, of those that are in `used`; boxes at the left, arrows right.
-function legend(used, top) {
-    const is_used = ([kind]) => used.some((it) => it.includes(`class="${kind}"`));
-    const all_used = LEGEND.filter(is_used);
-    const columns = [all_used.filter(([, text]) => text), all_used.filter(([, text]) => !text)];
+// Returns the shapes of a sample of the legend, whose left top is at x and y.
+function sample([kind, text], x, y) {
+    const half = SAMPLE / 2 - 6;
+    if (text) return box({ middle: x + half, half }, { kind, text, from: 0, to: 1 }, y);
+    const ends = [{ middle: x, half: 0 }, { middle: x + 2 * half, half: 0 }];
+    return arrow(...ends, y + ROW / 2, { is_back: kind === "arrow back", is_call: kind === "arrow call" });
+}
+
+// Returns the legend for the page: of each kind of shape a sample and its meaning.
+export function legend() {
+    const svg = (it) => `<svg ${size_of(SAMPLE, ROW)}>${sample(it, 2, 0).join("")}</svg>`;
+    return LEGEND.map((it) => `<span>${svg(it)}${it[2]}</span>`).join("");
+}
+
+// Returns { shapes, width, height }: the legend of a file, of the kinds that are in `used`: boxes left, arrows right.
+function legend_of(used, top) {
+    const kinds = LEGEND.filter(([kind]) => used.some((it) => it.includes(`class="${kind}"`)));
+    const columns = [kinds.filter(([, text]) => text), kinds.filter(([, text]) => !text)];
     const wide = (column) => 2 * MARGIN + SAMPLE + CHARACTER * Math.max(0, ...column.map(([, , it]) => it.length));
-    const entry = ([kind, text, meaning], row, left) => {
-        const [y, half] = [top + ROW * row, SAMPLE / 2 - 6];
-        const ends = [{ middle: left, half: 0 }, { middle: left + 2 * half, half: 0 }];
-        const shapes = text
-            ? box({ middle: left + half, half }, { kind, text, from: row, to: row + 1 }, top)
-            : arrow(...ends, y + ROW / 2, { is_back: kind === "arrow back", is_call: kind === "arrow call" });
-        return [...shapes, word("note", left + SAMPLE, y + 18, meaning)];
-    };
     const lefts = [MARGIN, wide(columns[0])];
+    const entry = (it, row, left) => {
+        const y = top + ROW * row;
+        return [...sample(it, left, y), word("note", left + SAMPLE, y + 18, it[2])];
+    };
     const shapes = columns.flatMap((column, at) => column.flatMap((it, row) => entry(it, row, lefts[at])));
     const width = columns[1].length > 0 ? lefts[1] + wide(columns[1]) - MARGIN : lefts[1];
     return { shapes, width, height: ROW * Math.max(...columns.map((it) => it.length)) };
@@ -174,7 +183,7 @@ export function file({ text, answers, sizes, state }, style) {
     const left = MARGIN + CHARACTER * Math.max(...[header, ...steps].map((it) => it.length)) + MARGIN;
     const { lanes, shapes } = drawn(all(answers.length + 1).map(state), sizes, left, top);
     const foot = top + ROW * answers.length + 12;
-    const meaning = legend(shapes, foot);
+    const meaning = legend_of(shapes, foot);
     const [width, height] = [Math.max(edge_of(lanes) + MARGIN, meaning.width), foot + meaning.height + 10];
     const kind = ({ code }) => (is_refused(code) ? "refused" : "step");
     const inner = [

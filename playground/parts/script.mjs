@@ -6,9 +6,19 @@ const MOST_BYTES = 256; // in a line
 const MOST_WORD = 18446744073709551615n; // the greatest number of 64 bits
 
 const WIDTHS = { ...STEPS, queue: 1, first: 1 };
-const FORMS = {
-    enter: "enter K", leave: "leave K", wait: "wait K C P", signal: "signal K C", pass: "pass K C",
-    notify: "notify K C", broadcast: "broadcast K C", queue: "queue C", first: "first C",
+
+// The form of each line, and what it means.
+export const FORMS = {
+    monitor: ["monitor P C M", "the first line: P places, C conditions, the last M (or none) of them Mesa conditions"],
+    enter: ["enter K", "place K enters"],
+    wait: ["wait K C P", "K waits on condition C with priority P: the least resumes first"],
+    signal: ["signal K C", "K hands the monitor to the first waiter on C, and returns later"],
+    pass: ["pass K C", "the same as K’s last act: K is outside then"],
+    leave: ["leave K", "K leaves"],
+    notify: ["notify K C", "K notifies the first waiter on the Mesa condition C, and stays inside"],
+    broadcast: ["broadcast K C", "K notifies every waiter on it"],
+    queue: ["queue C", "does any place wait on C?"],
+    first: ["first C", "the priority of the first waiter on C"],
 };
 const HEADER =
     "“monitor P C” or “monitor P C M”: P 1 to 64 places, C 1 to 8 conditions, the last M of them Mesa conditions";
@@ -50,7 +60,7 @@ function parse_header(line) {
 function expected(line) {
     const [name] = line.split(" ");
     if (name === "monitor") return "a step: only the first line is a “monitor”";
-    if (Object.hasOwn(FORMS, name)) return `“${FORMS[name]}”, with one space between and no 0 before a number`;
+    if (Object.hasOwn(FORMS, name)) return `“${FORMS[name][0]}”, with one space between and no 0 before a number`;
     return "enter, wait, signal, pass, leave, notify, broadcast, queue or first, and its numbers";
 }
 

@@ -1,6 +1,6 @@
 // One run of a script on the page: a sentence on the step, the data with rest and ready, the lists, and the lanes.
 import { MOST_CONDITIONS, MOST_PLACES, NOBODY, all, is_refused } from "./book.mjs";
-import { LEGEND, ROW, file, mark, picture } from "./picture.mjs";
+import { ROW, file, legend, mark, picture } from "./picture.mjs";
 import { HIGH, WIDE } from "./scenes.mjs";
 import { data_after, owed, waiting_priorities } from "./schedulers.mjs";
 import { answer_text } from "./script.mjs";
@@ -78,11 +78,11 @@ export class Show {
         this.heads = make("div", { class: "heads", "aria-hidden": "true" });
         const corner = make("div", { class: "corner", "aria-hidden": "true" }, "step", make("span", {}, "answer"));
         this.scroll = make("div", { class: "card chart" }, corner, this.heads, this.steps, this.lanes);
-        const spans = LEGEND.map(([kind, , text]) => make("span", { class: `l-${kind.split(" ").at(-1)}` }, text));
-        const legend = make("p", { class: "legend", "aria-hidden": "true" }, ...spans);
+        const meaning = make("p", { class: "legend", "aria-hidden": "true" });
+        meaning.innerHTML = legend();
         const first = make("div", {}, this.banner, ...controls, this.data, this.stage);
         const left = make("div", { class: "column" }, first, ...under[0]);
-        const right = make("div", { class: "column" }, make("div", {}, this.scroll, legend), ...under[1]);
+        const right = make("div", { class: "column" }, make("div", {}, this.scroll, meaning), ...under[1]);
         const heading = make("h2", { class: title ? "run-title" : "unseen" }, title ?? "The monitor");
         this.section = make("section", { class: "run", "aria-label": title ?? "The monitor" }, heading, left, right);
         this.chips = new Map();

@@ -96,7 +96,7 @@ class Page {
         this.example = example_of(text);
         if (!is_written) $("text").value = text;
         const { twin } = this.example ?? {};
-        this.runs = [run(this.module, text, this.runs?.[0]), ...(twin ? [run(this.module, twin.script)] : [])];
+        this.runs = [text, ...(twin ? [twin.script] : [])].map((it) => run(this.module, it));
         const { fault } = this.runs[0];
         $("fault").textContent = fault ? `${fault.name}, line ${fault.line}: expected ${fault.expected}.` : "";
         $("text").setAttribute("aria-invalid", fault ? "true" : "false");

@@ -1,9 +1,9 @@
 // The text of a script: its grammar, which is that of crates/hoare_script, and its answers as that program spells them.
 import { MOST_CONDITIONS, MOST_PLACES, NOBODY, STEPS, answer_all, is_refused, look } from "./book.mjs";
 
-export const MOST_STEPS = 400; // a limit of this page, which replays the whole script for each state that it shows
+const MOST_STEPS = 400; // a limit of this page, which replays the whole script for each state that it shows
 const MOST_BYTES = 256; // in a line
-const MOST_WORD = 18446744073709551615n; // the greatest number of 64 bits
+export const MOST_WORD = 18446744073709551615n; // the greatest number of 64 bits
 
 const WIDTHS = { ...STEPS, queue: 1, first: 1 };
 
@@ -32,7 +32,8 @@ export const REFUSALS = {
     6: "the condition is of the other kind",
 };
 
-function number(word) {
+// Returns the number of a word, or null.
+export function number(word) {
     if (!/^(0|[1-9][0-9]*)$/.test(word)) return null;
     const value = BigInt(word);
     return value > MOST_WORD ? null : value;
@@ -95,7 +96,7 @@ function fault_of_header(header, sizes) {
 
 // Returns a script: { sizes, commands: [{ name, words, line, text }], fault }. `fault` is null or
 // { name, line, expected }; the commands end before it.
-export function parse(text) {
+function parse(text) {
     const [header, ...lines] = lines_of(text);
     const sizes = parse_header(header ?? "");
     const first_fault = fault_of_header(header, sizes);
@@ -118,17 +119,10 @@ export function answer_text({ name, code, priority }) {
     return code === NOBODY ? "free" : `${code}`;
 }
 
-// Returns how many of the first steps are those of the run `last` too, or -1 if its monitor is another one.
-function count_shared(last, text, answers) {
-    if (lines_of(last?.text ?? "")[0] !== lines_of(text)[0]) return -1;
-    const differing = answers.findIndex((it, at) => it.text !== last.answers[at]?.text);
-    return differing < 0 ? answers.length : differing;
-}
-
 // Runs a script. Returns what `parse` does, with `answers`, and `state(at)`, the state after `at` steps (null if there
 // is no monitor). The sizes are numbers then. `is_large` is true if the page has no place or no condition left for its
-// experiments: then there are answers, and no states. The states of the run `last` that this one shares are kept.
-export function run(module, text, last = null) {
+// experiments: then there are answers, and no states.
+export function run(module, text) {
     const script = parse(text);
     const nothing = { ...script, text, answers: [], state: () => null };
     if (!script.sizes) return nothing;
@@ -138,11 +132,7 @@ export function run(module, text, last = null) {
     if (sizes.places > MOST_PLACES || sizes.conditions > MOST_CONDITIONS) {
         return { ...nothing, sizes, answers, is_large: true };
     }
-    const shared = count_shared(last, text, answers);
-    const kept = new Map([...(last?.kept ?? [])].filter(([at]) => at <= shared));
-    const state = (at) => {
-        if (!kept.has(at)) kept.set(at, look(module, sizes, answers.slice(0, at)));
-        return kept.get(at);
-    };
-    return { ...script, sizes, text, answers, state, kept };
+    const states = [];
+    const state = (at) => (states[at] ??= look(module, sizes, answers.slice(0, at)));
+    return { ...script, sizes, text, answers, state };
 }

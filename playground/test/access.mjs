@@ -129,7 +129,7 @@ const CONTRAST = `
     const has = (a, b) => a.left <= b.left && a.right >= b.right && a.top <= b.top && a.bottom >= b.bottom;
     const box = (it) => [...it.ownerSVGElement.querySelectorAll('.inside, .waits, .called, .blank')]
         .find((of) => has(of.getBoundingClientRect(), it.getBoundingClientRect()));
-    const under = (it) => it.closest('.lanes') ? rgb(getComputedStyle(box(it)).fill) : ground(it);
+    const under = (it) => it.closest('.lanes svg, .legend svg') ? rgb(getComputedStyle(box(it)).fill) : ground(it);
     const of_text = (it) => {
         const { fill, color } = getComputedStyle(it);
         return ratio(rgb(it.closest('svg') ? fill : color), under(it));

@@ -91,7 +91,7 @@ async function check_readers() {
 // A new monitor, with calls by mouse and by keys, and a priority that is typed.
 async function check_calls() {
     await go("#s=monitor_3_2_1;enter_0&at=1");
-    await press("#buttons .priority input");
+    await press("#priority");
     await keys(["7"]); // after the 0 that is there
     checks.is((await read()).message.startsWith("A priority is a number from 0 to"), "a priority that is none");
     await run("document.activeElement.select()");
@@ -100,9 +100,10 @@ async function check_calls() {
     await press('#places label:has([value="1"])');
     await focus('#buttons [data-call="enter"]');
     await keys([KEYS.enter]);
-    await press("#buttons .call-row:last-child .priority input");
+    await press("#priority");
     await run("document.activeElement.select()");
-    await keys(["4", KEYS.enter]);
+    await keys(["4"]);
+    await call("wait", "1");
     checks.same((await read()).waiting, [["0 p18446744073709551615"], ["1 p4"]], "two waits");
     await press('#places label:has([value="2"])');
     await call("enter");

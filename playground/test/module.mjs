@@ -51,21 +51,6 @@ function check_state([script, ...wanted]) {
     checks.same([inside, signallers, called, waiting], wanted, `the state after ${script}`);
 }
 
-// A run after another one has the states that it has alone, whatever the two share.
-function check_shared() {
-    const texts = [
-        "monitor 3 1; enter 0; wait 0 0 0; enter 1; signal 1 0", "monitor 3 1; enter 0; wait 0 0 1; enter 2",
-        "monitor 3 1; enter 0; wait 0 0 1", "monitor 3 2; enter 0; wait 0 0 1; enter 2", "", "monitor 3 1; enter 2",
-    ].map(lines_of);
-    const states = (it) => [...Array(it.answers.length + 1).keys()].map(it.state);
-    let last = null;
-    for (const text of texts) {
-        const [after, alone] = [run(module, text, last), run(module, text)];
-        checks.same(states(after), states(alone), `the states of ${JSON.stringify(text)} after another run`);
-        last = after;
-    }
-}
-
 // Texts, each with the fault that ends it and its line.
 const FAULTS = [
     ["", "NoHeader", 1], ["\n", "BadHeader", 1], ["monitor 65 8", "BadHeader", 1], ["monitor 1 9", "BadHeader", 1],
@@ -154,5 +139,5 @@ function check_pictures() {
 
 ROWS.forEach(check_row);
 STATES.forEach(check_state);
-for (const check of [check_shared, check_faults, check_links, check_lies, check_pictures]) check();
+for (const check of [check_faults, check_links, check_lies, check_pictures]) check();
 checks.end(`the module, ${ROWS.length} worked rows, and the pictures`);

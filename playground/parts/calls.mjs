@@ -82,7 +82,8 @@ export class Calls {
         const line = [name, ...words].join(" ");
         const says = `${line} would be answered ${answer}.`;
         const hint = () => this.hint(says, is_no);
-        const does = { onfocus: hint, onmouseenter: hint, onclick: () => (is_no ? this.say(says, true) : this.act(line)) };
+        const onclick = () => (is_no ? this.say(says, true) : this.act(line));
+        const does = { onfocus: hint, onmouseenter: hint, onclick };
         const data = { "data-call": name, "data-condition": condition_of(it) };
         const label = is_no
             ? { "aria-disabled": "true", "aria-label": `${name}: ${answer}` }

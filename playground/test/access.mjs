@@ -7,7 +7,7 @@ const page = await open_page(process.argv[2]);
 const checks = new Checks();
 const { focus, keys, run } = page;
 const LEAST_CONTRAST = 4.5; // of texts: WCAG 2.2, 1.4.3
-const EXAMPLES_SHOWN = ["#e=mesa&at=14", "#e=disk&at=35", "#e=both-kinds&at=13", "#e=every-step&at=22", "#s=monitor_1&at=0"];
+const SHOWN = ["#e=mesa&at=14", "#e=disk&at=35", "#e=both-kinds&at=13", "#e=every-step&at=22", "#s=monitor_1&at=0"];
 
 async function show(hash, { width = 1280, scheme = "light" } = {}) {
     const features = Object.entries({ "prefers-color-scheme": scheme, "prefers-reduced-motion": "reduce" });
@@ -96,8 +96,10 @@ async function check_keyboard() {
 // How wide each example is at each of its steps, and how many texts are cut there.
 const WIDE = `
     const texts = 'button, .chip, .said, .note, td, .values, .owed, .clauses li, h1, h2, h3, p, dd';
-    const is_cut = (it) => it.scrollWidth > it.clientWidth + 1 && it.clientWidth > 0 && !it.closest('.chart, .unseen, .skip');
-    const wide = () => [document.documentElement.scrollWidth, [...document.querySelectorAll(texts)].filter(is_cut).length];
+    const is_wide = (it) => it.scrollWidth > it.clientWidth + 1 && it.clientWidth > 0;
+    const is_cut = (it) => is_wide(it) && !it.closest('.chart, .unseen, .skip');
+    const cut = () => [...document.querySelectorAll(texts)].filter(is_cut).length;
+    const wide = () => [document.documentElement.scrollWidth, cut()];
     const on = () => document.querySelector('[data-control=on]');
     return [...document.querySelectorAll('#examples button')].flatMap((button) => {
         button.click();
@@ -145,7 +147,7 @@ const CONTRAST = `
     return { texts: found.length, low: found.filter(([it]) => it < arguments[0]) };`;
 
 async function check_contrast() {
-    for (const [hash, scheme] of EXAMPLES_SHOWN.flatMap((it) => [[it, "light"], [it, "dark"]])) {
+    for (const [hash, scheme] of SHOWN.flatMap((it) => [[it, "light"], [it, "dark"]])) {
         await show(hash, { scheme });
         const { texts, low } = await run(CONTRAST, LEAST_CONTRAST);
         checks.is(texts > 50, `${hash}, ${scheme}: ${texts} texts`);

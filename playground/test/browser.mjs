@@ -1,6 +1,6 @@
 // usage: node browser.mjs PAGE.html
-// The page in a headless Chromium, as a visitor uses it: examples step by step, calls by mouse and keys, a script that is
-// typed, a file, the saved picture, links and Undo.
+// The page in a headless Chromium, as a visitor uses it: examples step by step, calls by mouse and keys, a script that
+// is typed, a file, the saved picture, links and Undo.
 import { execFileSync } from "node:child_process";
 import { readFileSync } from "node:fs";
 import { fileURLToPath } from "node:url";
@@ -183,7 +183,7 @@ async function check_file() {
 // "Copy a link" puts the script and the step into the clipboard. A link to a part of the page leaves both as they are.
 async function check_links() {
     await page.cdp("Browser.grantPermissions", { permissions: ["clipboardReadWrite", "clipboardSanitizedWrite"] });
-    await go("#s=monitor_3_1;enter_0;wait_0_0_9;enter_1;signal_1_0;enter_2;enter;0&at=4");
+    await go("#s=monitor_3_1;enter_0;wait_0_0_9;enter_1;signal_1_0;enter_2;enter;0&at=5");
     const before = await read();
     await focus("#share");
     await keys([KEYS.enter]);
@@ -192,8 +192,9 @@ async function check_links() {
     const link = await run("return navigator.clipboard.readText()");
     await go(link.replace(page.url, ""));
     const after = await read();
-    for (const it of ["text", "at", "steps", "inside", "signallers", "fault"]) checks.same(after[it], before[it], it);
-    checks.same([after.inside, after.signallers, after.at], [[0], [1], 4], "the state of a copied link");
+    for (const it of ["text", "steps", "fault"]) checks.same(after[it], before[it], `the ${it} of a copied link`);
+    const { inside, signallers, refused, at: shown } = after;
+    checks.same([inside, signallers, refused, shown], [[0], [1], [2], 5], "the state of a copied link");
     await run("location.hash = '#e=disk&at=5'");
     await pause(WRITE_PAUSE);
     await press('a[href="#proof"]');

@@ -57,8 +57,8 @@ const READ = `
     return {
         steps: all('.steps button', main).map((it) => [it.querySelector('.call').textContent, answer(it)]),
         at: all('.steps button', main).findIndex((it) => it.getAttribute('aria-current')) + 1,
-        fault: text('fault'), said: main.querySelector('.banner').textContent, text: document.getElementById('text').value,
-        outside: places('.outside-places-zone'), refused: places('.refused-zone'), inside: places('.inside-zone'),
+        fault: text('fault'), said: main.querySelector('.banner').textContent, inside: places('.inside-zone'),
+        text: document.getElementById('text').value, refused: places('.refused-zone'),
         signallers: places('.signallers-zone'), called: places('.called-zone'),
         waiting: all('.condition-zone', main).map((zone) => all('.chip', zone).map(waiter)),
         message: text('call-message'), live: text('live'), shared: text('shared'),

@@ -78,8 +78,8 @@ const WRONG = {
     READERS: [
         [shared(1, "in"), [[], []], "at most 1,024"], [shared(1025, "out"), [[], []], "at most 1,024"],
         [shared(0, "out"), [[], [0]], "if a process waits to write"],
-        [shared(1, "out"), [[0], []], "if a process waits to read"], [shared(0, "in"), [[], []], "no writer is in", 0, 0],
-        [shared(1, "out"), [[], []], "no reader is in", 1, 0],
+        [shared(1, "out"), [[0], []], "if a process waits to read"],
+        [shared(0, "in"), [[], []], "no writer is in", 0, 0], [shared(1, "out"), [[], []], "no reader is in", 1, 0],
     ],
 };
 
@@ -88,7 +88,8 @@ function check_wrong(name) {
     const begun = new Set();
     for (const [data, q, begin, condition, p] of WRONG[name]) {
         const failing = (ready[condition] ?? rest).filter((it) => !it.is_true(data, q, p)).map((it) => it.text);
-        checks.same(failing.map((it) => it.slice(0, begin.length)), [begin], `${name}: ${JSON.stringify([data, q, p])}`);
+        const begins = failing.map((it) => it.slice(0, begin.length));
+        checks.same(begins, [begin], `${name}: ${JSON.stringify([data, q, p])}`);
         failing.forEach((it) => begun.add(it));
     }
     const never = [rest, ...ready].flat().filter((it) => !begun.has(it.text));
@@ -132,8 +133,8 @@ pass 1 0 | Place 1 hands the monitor to place 0, which waited on condition 0. | 
     outside.
 wait 0 1 7 | Place 0 releases the monitor and waits on condition 1 with priority 7. | Place 2, the signaller, returns,
     before any notified or entering process.
-pass 2 0 | Place 2 signals condition 0 and leaves in one step. No place waits there. | No signaller waits and no notified
-    place does, so the monitor is free.
+pass 2 0 | Place 2 signals condition 0 and leaves in one step. No place waits there. | No signaller waits and no
+    notified place does, so the monitor is free.
 enter 1
 wait 1 1 8
 enter 3

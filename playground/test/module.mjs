@@ -9,17 +9,21 @@ import { address_of, read_address } from "../parts/link.mjs";
 import { answer_text, run } from "../parts/script.mjs";
 import { SCRIPTS, stored } from "../parts/scripts.mjs";
 import { Checks } from "./checks.mjs";
-import { ROWS, text_of } from "./rows.mjs";
 
 const top = fileURLToPath(new URL("../../", import.meta.url));
 const module = await stored();
 const checks = new Checks();
 const lines_of = (steps) => steps.replaceAll("; ", "\n");
 
-function check_row(row) {
-    const { answers, commands, fault } = run(module, text_of(row));
-    checks.same(answers.map((it, at) => [commands[at].text, answer_text(it)]), row.steps, `row ${row.name}`);
-    checks.same(fault ? `${fault.name}, line ${fault.line}` : undefined, row.fault, `row ${row.name}: fault`);
+// A worked row: a name, and lines with their answers. A line that begins with `= ` is the fault that the last line has.
+function check_row(block) {
+    const [name, ...lines] = block.split("\n").filter((it) => it && !it.startsWith("#"));
+    const wanted = lines.find((it) => it.startsWith("= "))?.match(/fault \d+ (\w+) line (\d+)/);
+    const rows = lines.filter((it) => !it.startsWith("= ")).join(" ").split("; ").map((it) => it.split(" -> "));
+    const { answers, fault } = run(module, rows.map(([line]) => line).join("\n"));
+    const steps = wanted ? rows.slice(1, -1) : rows.slice(1);
+    checks.same(answers.map((it) => [it.text, answer_text(it)]), steps, `row ${name}`);
+    checks.same([fault?.name, fault && `${fault.line}`], [wanted?.[1], wanted?.[2]], `row ${name}: fault`);
 }
 
 // Scripts, and the place inside, the signallers, the notified places and each condition's waiters after them.
@@ -126,7 +130,7 @@ function check_pictures() {
     const names = Object.keys(SCRIPTS).filter((it) => it !== "mixed").map((it) => `examples/${it}`);
     for (const name of [...names, "docs/pictures/hang"]) {
         const drawn = execFileSync(`${top}playground/picture`, [`${top}${name}.script`], { encoding: "utf8" });
-        checks.is(drawn === readFileSync(`${top}${name}.svg`, "utf8"), `${name}.svg isn't what playground/picture draws`);
+        checks.is(drawn === readFileSync(`${top}${name}.svg`, "utf8"), `${name}.svg is what playground/picture draws`);
     }
     for (const [input, says] of [
         ["monitor 2 1\nenter 0\nenter\n", 'picture: line 3: "enter": BadLine, expected “enter K”'],
@@ -137,7 +141,9 @@ function check_pictures() {
     }
 }
 
-ROWS.forEach(check_row);
+const blocks = readFileSync(`${top}tests/script_rows/answers.txt`, "utf8").split("\n== ").slice(1);
+const rows = blocks.filter((it) => !it.includes("\n! ")); // those with `! ` have no answers
+rows.forEach(check_row);
 STATES.forEach(check_state);
 for (const check of [check_faults, check_links, check_lies, check_pictures]) check();
-checks.end(`the module, ${ROWS.length} worked rows, and the pictures`);
+checks.end(`the module, ${rows.length} worked rows, and the pictures`);

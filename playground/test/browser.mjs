@@ -39,6 +39,21 @@ async function check_steps() {
     }
 }
 
+// The row of the present step is in sight in the chart, and the band over the lanes and the veil are where it ends.
+async function check_marks() {
+    for (const at of [1, 12, 35]) {
+        await go(`#e=disk&at=${at}`);
+        await pause(1000); // the chart scrolls
+        const seen = await run(`
+            const box = (it) => document.querySelector(it).getBoundingClientRect();
+            const [chart, row, here, veil] = ['.chart', '[aria-current]', '.lanes .here', '.lanes .future'].map(box);
+            const is_at = (a, b) => Math.abs(a - b) < 3;
+            const is_seen = row.top >= chart.top && row.bottom <= chart.bottom;
+            return [is_seen, is_at(here.top, row.top), is_at(veil.top, row.bottom)];`);
+        checks.same(seen, [true, true, true], `the marks at step ${at}`);
+    }
+}
+
 // Takes the example that is shown to its end. Returns how many steps it has, and how many clauses were false.
 const TO_THE_END = `
     document.querySelector('#examples [data-id="' + arguments[0] + '"]').click();
@@ -86,6 +101,11 @@ async function check_readers() {
     checks.same(seen.message, "15 later steps were dropped. Undo brings them back.", "its message");
     await press("#undo");
     checks.same([(await read()).at, (await read()).steps.length], [12, 27], "Undo");
+    await press(".steps li:nth-child(26) button");
+    await control("play");
+    await pause(1900);
+    const play = await run("return document.querySelector('[data-control=play]').textContent");
+    checks.same([(await read()).at, play], [27, "▶ Play"], "play to the end");
 }
 
 // A new monitor, with calls by mouse and by keys, and a priority that is typed.
@@ -218,7 +238,7 @@ async function check_loaded() {
     checks.is(refused, "the content policy refuses a request");
 }
 
-const shown = [check_steps, check_examples, check_readers, check_calls, check_typing, check_file, check_links];
+const shown = [check_steps, check_marks, check_examples, check_readers, check_calls, check_typing, check_file, check_links];
 for (const check of [...shown, check_loaded]) await check();
 await page.close();
 checks.end("the page in Chromium");

@@ -113,16 +113,16 @@ function check_mesa() {
     checks.same(signals, [[0, "the item is in"], [1, "the item is in"]], "hoare: ready is owed at each signal");
 }
 
-// Steps, with what the page says each did, and why. Some only lead to others.
+// Steps, with what the page says each did, why, and of some what it owes. Some only lead to others.
 const SENTENCES = `
 monitor 5 2 1
-enter 0 | Place 0 enters. | The monitor was free.
-enter 1 | Refused: the monitor isn’t free. | A refusal changes nothing.
+enter 0 | Place 0 enters. | The monitor was free. | Place 0 enters, and finds rest:
+enter 1 | Refused: the monitor isn’t free. | A refusal changes nothing. | A refused call owes nothing.
 signal 0 0 | Place 0 signals condition 0. No place waits there, so it continues. | A signal isn’t stored: a later waiter
-    doesn’t find it.
+    doesn’t find it. | A signal that resumes nobody owes nothing.
 queue 0 | Does any place wait on condition 0? No. | A question changes nothing. A notified place no longer waits.
 wait 0 0 3 | Place 0 releases the monitor and waits on condition 0 with priority 3. | No signaller waits and no notified
-    place does, so the monitor is free.
+    place does, so the monitor is free. | Place 0 releases the monitor, and owes rest.
 enter 1
 wait 1 0 2
 first 0 | On condition 0 the first waiter has priority 2. | A question changes nothing.
@@ -132,7 +132,8 @@ signal 2 0 | Place 2 hands the monitor to place 1, which waited on condition 0. 
 pass 1 0 | Place 1 hands the monitor to place 0, which waited on condition 0. | The signal was its last act: place 1 is
     outside.
 wait 0 1 7 | Place 0 releases the monitor and waits on condition 1 with priority 7. | Place 2, the signaller, returns,
-    before any notified or entering process.
+    before any notified or entering process. | Place 0 releases the monitor, and owes rest. Place 2, which returns,
+    finds it.
 pass 2 0 | Place 2 signals condition 0 and leaves in one step. No place waits there. | No signaller waits and no
     notified place does, so the monitor is free.
 enter 1
@@ -141,7 +142,8 @@ enter 3
 broadcast 3 1 | Place 3 notifies place 0 and place 1, and stays inside. | A notified place resumes later: after the
     signallers, before any entering process. It has to test its condition again.
 leave 3 | Place 3 leaves. | No signaller waits, so place 0 resumes, which was notified first. No entering process is
-    before it.
+    before it. | Place 3 releases the monitor, and owes rest. Place 0, which was notified, finds it and tests its
+    condition again.
 notify 0 1 | Place 0 notifies nobody: no place waits on condition 1. | It stays inside.`;
 
 function check_sentences() {
@@ -150,8 +152,29 @@ function check_sentences() {
     const { answers, state } = run(module, rows.map(([line]) => line).join("\n"));
     for (const [at, [line, ...wanted]] of rows.entries()) {
         if (wanted.length === 0) continue;
-        const { said, why } = describe(answers[at - 1], state(at - 1), state(at), names_of());
-        checks.same([said, why], wanted, `the sentences of ${line}`);
+        const step = [answers[at - 1], state(at - 1), state(at), names_of()];
+        const { said, why } = describe(...step);
+        const { text } = owed(SCHEDULERS.SINGLE, { item: "in" }, ...step);
+        checks.same([said, why, text].slice(0, wanted.length), wanted, `the sentences of ${line}`);
+    }
+}
+
+// The drawn data of each scheduler: full cells and gaps with their words; the pointer, and dots above and below a line.
+function check_scenes() {
+    const drawn = {
+        SINGLE: [[{ item: "out" }], "gap out"], BUFFER: [[{ items: 1, cells: 2 }], "full an item, gap free"],
+        POOL: [[pool("free", "2")], "gap free, full of stream 2"],
+        READERS: [[shared(2, "out")], "gap no writer, full a reader, full a reader"],
+        ALARM: [[{ time: 1 }, [[2, 2]]], "due 195 15, due 195 6, pointer 104v"],
+        HEAD: [[disk({ head: 50 }), [[70], [80]]], "due 204 15, due 68 41, pointer 150m-6"],
+    };
+    for (const [name, [state, wanted]] of Object.entries(drawn)) {
+        const svg = SCHEDULERS[name].draw(...state);
+        const cells = [...svg.matchAll(/class="(full|gap)".*?<text[^>]*>([^<]*)/g)].map(([, ...it]) => it.join(" "));
+        const dots = [...svg.matchAll(/class="due" cx="([0-9]+)[^"]*" cy="([0-9]+)"/g)].map(([, x, y]) => `due ${x} ${y}`);
+        const pointer = svg.match(/class="pointer" d="M([0-9]+)[^a-z]*([a-z](-6)?)/);
+        const line = pointer ? [`pointer ${pointer[1]}${pointer[2]}`] : [];
+        checks.same([...cells, ...dots, ...line].join(", "), wanted, `the drawing of ${name}`);
     }
 }
 
@@ -160,4 +183,5 @@ checks.same(Object.keys(SCHEDULERS), Object.keys(WRONG), "the schedulers");
 Object.keys(WRONG).forEach(check_wrong);
 check_mesa();
 check_sentences();
+check_scenes();
 checks.end(`${EXAMPLES.length} examples`);

@@ -5,7 +5,7 @@ import { KEYS, open_page } from "./driver.mjs";
 
 const page = await open_page(process.argv[2]);
 const checks = new Checks();
-const { focus, keys, run } = page;
+const { keys, run } = page;
 const LEAST_CONTRAST = 4.5; // of texts: WCAG 2.2, 1.4.3
 const SHOWN = ["#e=mesa&at=14", "#e=disk&at=35", "#e=both-kinds&at=13", "#e=every-step&at=22", "#s=monitor_1&at=0"];
 
@@ -38,7 +38,7 @@ async function check_names() {
     const wanted = {
         button: ["Step 7: enter 3, answer 3", "One step on", "wait 3 0 0", "enter: refused 2: the monitor isn’t free"],
         group: ["Short scripts", "Which process calls?", "Enter and leave", "On condition 0"],
-        list: ["Inside", "Outside", "Waiting on condition 0, in order"], textbox: ["The script"], slider: ["Step"],
+        list: ["Inside", "Outside", "Waiting on condition 0 (Hoare)"], textbox: ["The script"], slider: ["Step"],
         StaticText: ["place 2, priority 3", "place 0, priority 5"], RootWebArea: ["Hoare’s monitor, step by step"],
     };
     for (const [role, list] of Object.entries(wanted)) {
@@ -78,19 +78,6 @@ async function check_focus() {
         const found = [...document.querySelectorAll('a[href], button:not([disabled]), input, textarea, summary')];
         return found.length - found.filter((it) => it.type === 'radio').length + 1;`);
     checks.is([0, 1].includes(stops.length - all), `${stops.length} stops, ${all} controls; a box that scrolls is one`);
-}
-
-// Buttons work by Enter and Space, and the focus isn't lost when they are made anew.
-async function check_keyboard() {
-    await show("#e=hand-off&at=4");
-    await focus("[data-control=on]");
-    await keys([KEYS.enter, KEYS.space, KEYS.space]);
-    const kept = await run("return document.activeElement.dataset.control");
-    checks.same([(await page.read()).at, kept], [6, "on"], "Enter and Space, to the end");
-    await focus('#buttons [data-call="enter"]');
-    await keys([KEYS.enter]);
-    const { steps, focus: where } = await page.read();
-    checks.same([steps.at(-1), where], [["enter 1", "1"], "leave"], "a call by Enter");
 }
 
 // How wide each example is at each of its steps, and how many texts are cut there.
@@ -155,6 +142,6 @@ async function check_contrast() {
     }
 }
 
-for (const check of [check_names, check_focus, check_keyboard, check_widths, check_contrast]) await check();
+for (const check of [check_names, check_focus, check_widths, check_contrast]) await check();
 await page.close();
 checks.end("names, focus, widths and contrast");

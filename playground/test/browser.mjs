@@ -25,6 +25,9 @@ async function check_steps() {
         checks.same([shown, inside, signallers], [at, wanted, at === 4 ? [1] : []], `step ${at}`);
         await control("on");
     }
+    await focus("[data-control=back]");
+    await keys([KEYS.enter, KEYS.space]);
+    checks.same((await read()).at, 4, "Enter and Space on a button");
     const says = "signal 1 0: Place 1 hands the monitor to place 0, which waited on condition 0.";
     const moves = [
         [() => keys([KEYS.home]), 0], [() => keys([KEYS.right, KEYS.right]), 2], [() => keys([KEYS.end]), 6],
@@ -120,6 +123,7 @@ async function check_calls() {
     await press('#places label:has([value="1"])');
     await focus('#buttons [data-call="enter"]');
     await keys([KEYS.enter]);
+    checks.same((await read()).focus, "leave", "the focus, after its button is gone");
     await press("#priority");
     await run("document.activeElement.select()");
     await keys(["4"]);

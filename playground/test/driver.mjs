@@ -6,7 +6,10 @@ import { join, resolve } from "node:path";
 
 const TRIES = 100; // attempts to reach the driver, or the page
 const BETWEEN = 200; // two attempts, in milliseconds
-const ARGS = ["--headless=new", "--no-sandbox", "--disable-gpu", "--hide-scrollbars", "--disable-dev-shm-usage"];
+const ARGS = [
+    "--headless=new", "--no-sandbox", "--disable-gpu", "--hide-scrollbars", "--disable-dev-shm-usage",
+    "--window-size=1280,1000",
+];
 
 export const KEYS = {
     right: "\uE014", left: "\uE012", home: "\uE011", end: "\uE010", tab: "\uE004", enter: "\uE007", space: " ",
@@ -66,18 +69,22 @@ const READ = `
         focus: document.activeElement.id || document.activeElement.dataset.call || document.activeElement.tagName,
     };`;
 
-// Opens a browser for the page in a file. Its calls return promises.
-export async function open_page(file) {
+// Begins a session of a browser. Returns its `call`, and `end`.
+async function begin() {
     const port = 20000 + (process.pid % 20000);
     const end = start(port);
     await until(() => ask(port, "GET", "/status").then((it) => it.ready, () => false), "chromedriver");
     const binary = process.env.CHROMIUM ?? ["/usr/bin/chromium", "/usr/bin/google-chrome"].find((it) => existsSync(it));
     const wanted = {
-        browserName: "chrome", "goog:loggingPrefs": { browser: "ALL" },
-        "goog:chromeOptions": { args: [...ARGS, "--window-size=1280,1000"], binary },
+        browserName: "chrome", "goog:loggingPrefs": { browser: "ALL" }, "goog:chromeOptions": { args: ARGS, binary },
     };
     const { sessionId } = await ask(port, "POST", "/session", { capabilities: { alwaysMatch: wanted } });
-    const call = (method, path, body) => ask(port, method, `/session/${sessionId}${path}`, body);
+    return { end, call: (method, path, body) => ask(port, method, `/session/${sessionId}${path}`, body) };
+}
+
+// Opens a browser for the page in a file. Its calls return promises.
+export async function open_page(file) {
+    const { end, call } = await begin();
     const url = `file://${resolve(file)}`;
     const open = (it) => call("POST", "/url", { url: it });
     const run = (script, ...args) => call("POST", "/execute/sync", { script, args });

@@ -3,14 +3,12 @@
 // own.
 import { NOBODY, STEPS, all, is_refused, try_each } from "./book.mjs";
 import { make } from "./show.mjs";
-import { REFUSALS, answer_text } from "./script.mjs";
+import { MOST_WORD, REFUSALS, answer_text, number } from "./script.mjs";
 
-const MOST_PRIORITY = 2n ** 64n - 1n;
 const ON_CONDITION = ["signal", "pass", "notify", "broadcast"];
 const QUESTIONS = ["queue", "first"];
 const $ = (id) => document.getElementById(id);
 
-const is_priority = (text) => /^(0|[1-9][0-9]*)$/.test(text) && BigInt(text) <= MOST_PRIORITY;
 const condition_of = ({ name, words }) => (name in STEPS ? words[1] : words[0]) ?? null;
 
 export class Calls {
@@ -20,6 +18,7 @@ export class Calls {
         this.act = act;
         this.priority = "0";
         this.chosen = null;
+        $("priority").addEventListener("input", () => this.take_priority());
     }
 
     // Takes a run and how its places and conditions are named.
@@ -34,7 +33,7 @@ export class Calls {
         $("places").querySelectorAll("label").forEach((it) => it.remove());
         $("buttons").replaceChildren();
         this.say("");
-        $("places").hidden = !state;
+        $("acting").hidden = !state;
         if (!state) return;
         const kept = state.outside.includes(this.chosen) ? this.chosen : (state.outside[0] ?? 0);
         this.chosen = place ?? (state.inside === NOBODY ? kept : state.inside);
@@ -63,7 +62,6 @@ export class Calls {
         const first = [{ name: "enter", words: [actor] }, { name: "leave", words: [actor] }];
         const rows = [first, ...all(sizes.conditions).map(calls_on)];
         const answered = try_each(this.module, sizes, answers.slice(0, this.at), rows.flat()).values();
-        this.fields = [];
         $("buttons").replaceChildren(...rows.map((row, at) => this.row(row.map(() => answered.next().value), at - 1)));
     }
 
@@ -73,54 +71,35 @@ export class Calls {
         const name = condition < 0 ? "Enter and leave" : `On ${this.names.condition(condition)}`;
         const kind = condition >= sizes.conditions - sizes.mesa ? " (Mesa)" : "";
         const head = condition < 0 ? [] : [make("span", { class: "of", "aria-hidden": "true" }, name + kind)];
-        const [wait, ...others] = calls.map((it) => this.button(it));
-        const priority = condition < 0 ? [] : [this.priority_field(condition, wait)];
-        return make("div", { class: "call-row", role: "group", "aria-label": name + kind },
-            ...head, wait, ...priority, ...others);
+        const label = { class: "call-row", role: "group", "aria-label": name + kind };
+        return make("div", label, ...head, ...calls.map((it) => this.button(it)));
     }
 
     button(it) {
-        const { name, code } = it;
+        const { name, words, code } = it;
         const is_no = is_refused(code);
         const answer = is_no ? `refused ${code - 100}: ${REFUSALS[code - 100]}` : answer_text(it);
-        const line = () => [name, ...it.words.with(-1, name === "wait" ? this.priority : it.words.at(-1))].join(" ");
-        const hint = () => this.hint(`${line()} would be answered ${answer}.`, is_no);
-        const refuse = () => this.say(`${line()} would be answered ${answer}.`, true);
-        const does = { onfocus: hint, onmouseenter: hint, onclick: () => (is_no ? refuse() : this.act(line())) };
+        const line = [name, ...words].join(" ");
+        const says = `${line} would be answered ${answer}.`;
+        const hint = () => this.hint(says, is_no);
+        const onclick = () => (is_no ? this.say(says, true) : this.act(line));
+        const does = { onfocus: hint, onmouseenter: hint, onclick };
         const data = { "data-call": name, "data-condition": condition_of(it) };
-        const says = is_no
+        const label = is_no
             ? { "aria-disabled": "true", "aria-label": `${name}: ${answer}` }
-            : { "aria-label": line(), "aria-description": `answer ${answer}` };
+            : { "aria-label": line, "aria-description": `answer ${answer}` };
         const small = is_no ? [make("small", {}, `refused ${code - 100}`)] : [];
-        return make("button", { type: "button", ...data, ...says, ...does }, name, ...small);
+        return make("button", { type: "button", ...data, ...label, ...does }, name, ...small);
     }
 
-    // The field of the priority of a wait, which `wait` does; so does Enter in the field. All such fields have one
-    // value.
-    priority_field(condition, wait) {
-        const label = `Priority of a wait on ${this.names.condition(condition)}`;
-        const attributes = { inputmode: "numeric", value: this.priority, "aria-label": label, maxlength: 20 };
-        const oninput = ({ target }) => this.take_priority(target);
-        const onkeydown = (it) => {
-            if (it.key !== "Enter") return;
-            it.preventDefault(); // the button that gets the focus isn't meant
-            if (is_priority(input.value)) wait.click();
-        };
-        const input = make("input", { ...attributes, oninput, onkeydown });
-        this.fields.push({ input, wait });
-        return make("label", { class: "priority" }, "priority", input);
-    }
-
-    take_priority(target) {
-        const is_good = is_priority(target.value);
-        target.setAttribute("aria-invalid", !is_good);
-        this.say(is_good ? "" : `A priority is a number from 0 to ${MOST_PRIORITY}, without a 0 before it.`, true);
+    take_priority() {
+        const { value } = $("priority");
+        const is_good = number(value) !== null;
+        $("priority").setAttribute("aria-invalid", !is_good);
+        this.say(is_good ? "" : `A priority is a number from 0 to ${MOST_WORD}, without a 0 before it.`, true);
         if (!is_good) return;
-        this.priority = target.value;
-        for (const { input, wait } of this.fields) {
-            if (input !== target) input.value = this.priority;
-            if (wait.ariaDisabled !== "true") wait.ariaLabel = wait.ariaLabel.replace(/[0-9]+$/, this.priority);
-        }
+        this.priority = value;
+        this.show_buttons();
     }
 
     // Shows the outcome of a visitor's act; a screen reader reads it too.
@@ -132,8 +111,7 @@ export class Calls {
 
     // Shows what the call of a button would return. A screen reader reads it with the button's name.
     hint(text, is_no) {
-        $("call-message").textContent = "";
-        $("call-hint").textContent = text;
+        $("call-hint").textContent = text === $("call-message").textContent ? "" : text;
         $("call-hint").classList.toggle("refused", is_no);
     }
 

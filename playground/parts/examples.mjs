@@ -3,9 +3,12 @@
 import { SCHEDULERS } from "./schedulers.mjs";
 import { SCRIPTS } from "./scripts.mjs";
 
-// Takes lines "call | data | note" apart. A line that begins with a space continues the one before.
+// A line that begins with a space continues the one before.
+const one_line = (text) => text.replace(/\n +/g, " ");
+
+// Takes lines "call | data | note" apart.
 const told = (text) => {
-    const lines = text.trim().replace(/\n +/g, " ").split("\n").map((it) => it.split("|").map((part) => part.trim()));
+    const lines = one_line(text.trim()).split("\n").map((it) => it.split("|").map((part) => part.trim()));
     return {
         script: lines.map(([line]) => line).join("\n"),
         data: lines.map(([, data]) => data ?? ""),
@@ -13,48 +16,26 @@ const told = (text) => {
     };
 };
 
-const RULES = [
-    {
-        id: "hand-off", title: "Hand-off", script: SCRIPTS.hand_over,
-        about:
-            "A signal hands the monitor to the waiter at once: no process enters between. The signaller returns " +
-            "when the waiter leaves.",
-    },
-    {
-        id: "priorities", title: "Priorities", script: SCRIPTS.waiters_taken,
-        about:
-            "The waiter of least priority resumes first. Of two equal ones the longer waiting is first: place 0 " +
-            "before place 1.",
-    },
-    {
-        id: "two-signallers", title: "Two signallers", script: SCRIPTS.signallers_return,
-        about:
-            "A resumed process may signal too. Two signallers then wait, and return in the order in which they " +
-            "signalled.",
-    },
-    {
-        id: "broadcast", title: "Broadcast", script: SCRIPTS.broadcast,
-        about:
-            "On a Mesa condition a broadcast notifies every waiter. They resume later, one after the other, " +
-            "before any entering process.",
-    },
-    {
-        id: "both-kinds", title: "Both kinds", script: SCRIPTS.called_resume,
-        about:
-            "Condition 0 is Hoare’s, condition 1 is a Mesa condition. The signaller, place 3, returns before the " +
-            "two notified places resume.",
-    },
-    {
-        id: "every-step", title: "Every step", script: SCRIPTS.mixed,
-        about: "Signals, passes, waits with priorities, questions and refusals on two Hoare conditions.",
-    },
-];
+// Of each short script its file, its title, and what it is about.
+const RULES = Object.entries({
+    "hand-off": [SCRIPTS.hand_over, "Hand-off", `A signal hands the monitor to the waiter at once: no process enters
+        between. The signaller returns when the waiter leaves.`],
+    "priorities": [SCRIPTS.waiters_taken, "Priorities", `The waiter of least priority resumes first. Of two equal
+        ones the longer waiting is first: place 0 before place 1.`],
+    "two-signallers": [SCRIPTS.signallers_return, "Two signallers", `A resumed process may signal too. Two
+        signallers then wait, and return in the order in which they signalled.`],
+    "broadcast": [SCRIPTS.broadcast, "Broadcast", `On a Mesa condition a broadcast notifies every waiter. They
+        resume later, one after the other, before any entering process.`],
+    "both-kinds": [SCRIPTS.called_resume, "Both kinds", `Condition 0 is Hoare’s, condition 1 is a Mesa condition.
+        The signaller, place 3, returns before the two notified places resume.`],
+    "every-step": [SCRIPTS.mixed, "Every step", `Signals, passes, waits with priorities, questions and refusals on
+        two Hoare conditions.`],
+}).map(([id, [script, title, about]]) => ({ id, title, script, about: one_line(about) }));
 
 const SINGLE = {
     id: "single", title: "Single resource", scheduler: SCHEDULERS.SINGLE,
-    about:
-        "One item, for one process at a time. A process that calls acquire while the item is out waits on " +
-        "nonbusy.",
+    about: one_line(`One item, for one process at a time. A process that calls acquire while the item is out waits
+        on nonbusy.`),
     ...told(`
 monitor 3 1 | item=in
 enter 0 | | Place 0 calls acquire. The item is in.
@@ -76,9 +57,8 @@ pass 2 0 | item=in | No place waits, so the pass is a plain leave.`),
 const BUFFER = {
     id: "buffer", title: "Bounded buffer", scheduler: SCHEDULERS.BUFFER,
     labels: { places: ["consumer 0", "producer 1", "producer 2"] },
-    about:
-        "A buffer of two cells. A consumer waits on nonempty while there is no item, a producer on nonfull " +
-        "while no cell is free.",
+    about: one_line(`A buffer of two cells. A consumer waits on nonempty while there is no item, a producer on
+        nonfull while no cell is free.`),
     ...told(`
 monitor 3 2 | items=0 cells=2
 enter 0 | | The consumer calls remove. There is no item.
@@ -105,9 +85,8 @@ pass 2 0 | items=2 | Producer 2 puts its item in.`),
 const ALARM = {
     id: "alarm", title: "Alarm clock", scheduler: SCHEDULERS.ALARM,
     labels: { places: ["sleeper 0", "sleeper 1", "sleeper 2", "clock 3"] },
-    about:
-        "A sleeper waits on wakeup with the time at which it is due as its priority. Each process that wakes " +
-        "signals the next sleeper, which waits again if it isn’t due.",
+    about: one_line(`A sleeper waits on wakeup with the time at which it is due as its priority. Each process that
+        wakes signals the next sleeper, which waits again if it isn’t due.`),
     ...told(`
 monitor 4 1 | time=0
 enter 0 | | Sleeper 0 calls wakeme(2): it is due at 2.
@@ -129,9 +108,8 @@ pass 0 0 | | Sleeper 0 is due, and signals. No place waits.`),
 const POOL = {
     id: "pool", title: "Buffer pool", scheduler: SCHEDULERS.POOL,
     labels: { places: ["stream 0", "stream 1", "stream 2"] },
-    about:
-        "Two buffers, shared by three streams. A stream waits on nonfree with the number of buffers that it " +
-        "holds as its priority: the one that holds the fewest resumes first.",
+    about: one_line(`Two buffers, shared by three streams. A stream waits on nonfree with the number of buffers that
+        it holds as its priority: the one that holds the fewest resumes first.`),
     ...told(`
 monitor 3 1 | b0=free b1=free
 enter 0 | | Stream 0 calls take.
@@ -155,9 +133,8 @@ pass 0 0 | b0=free | No place waits, so the pass is a plain leave.`),
 const HEAD = {
     id: "disk", title: "Disk head", scheduler: SCHEDULERS.HEAD,
     labels: { chips: ["50", "70", "60", "20", "50", "60"].map((it, at) => `${at} to ${it}`) },
-    about:
-        "The head sweeps up, then down, over cylinders 0 to 100. A request waits for the upsweep with its " +
-        "cylinder as its priority, for the downsweep with 100 less its cylinder.",
+    about: one_line(`The head sweeps up, then down, over cylinders 0 to 100. A request waits for the upsweep with
+        its cylinder as its priority, for the downsweep with 100 less its cylinder.`),
     ...told(`
 monitor 6 2 | drive=in head=0 sweep=up due=0 last=100
 enter 0 | | Place 0 requests cylinder 50. The drive is in.
@@ -200,9 +177,8 @@ pass 3 0 | sweep=up | So the head turns. No place waits, so the pass is a plain 
 const READERS = {
     id: "readers", title: "Readers and writers", scheduler: SCHEDULERS.READERS,
     labels: { places: ["writer 0", "reader 1", "reader 2", "writer 3"] },
-    about:
-        "Readers share, a writer is alone; both read and write outside the monitor. No reader overtakes a " +
-        "waiting writer, and the readers that wait when a writer ends go before the next writer.",
+    about: one_line(`Readers share, a writer is alone; both read and write outside the monitor. No reader overtakes
+        a waiting writer, and the readers that wait when a writer ends go before the next writer.`),
     ...told(`
 monitor 4 2 | readers=0 writer=out
 enter 0 | | Writer 0 calls start_write. Nobody reads or writes.
@@ -238,10 +214,9 @@ pass 1 1 | readers=0 | It was the last reader. No writer waits.`),
 // resumes.
 const BESIDE_MESA = {
     id: "mesa", title: "Hoare beside Mesa", scheduler: SCHEDULERS.SINGLE,
-    about:
-        "Two processes wait for one item. Hoare: a signal resumes a waiter at once, and the waiter finds the item " +
-        "in. Mesa: a notified waiter resumes later. After the broadcast another waiter has taken the item by then; " +
-        "after the notify the notifier itself has. Each waiter has to test again.",
+    about: one_line(`Two processes wait for one item. Hoare: a signal resumes a waiter at once, and the waiter finds
+        the item in. Mesa: a notified waiter resumes later. After the broadcast another waiter has taken the item by
+        then; after the notify the notifier itself has. Each waiter has to test again.`),
     hoare_title: "With a Hoare condition",
     ...told(`
 monitor 4 1 | item=out

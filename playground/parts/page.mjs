@@ -4,7 +4,7 @@ import { Calls } from "./calls.mjs";
 import { EXAMPLES, GROUPS } from "./examples.mjs";
 import { MODULE, RECORD } from "./module.mjs";
 import { address_of, read_address } from "./link.mjs";
-import { REFUSALS, lines_of, run } from "./script.mjs";
+import { FORMS, REFUSALS, lines_of, run } from "./script.mjs";
 import { Show, make } from "./show.mjs";
 
 const PLAY_PAUSE = 1500; // between two steps that are played, in milliseconds
@@ -25,9 +25,9 @@ class Page {
         $("loading").remove();
         $("run").hidden = false;
         $("examples").append(...GROUPS.map((it) => this.group(it)));
-        for (const [n, text] of Object.entries(REFUSALS)) {
-            $("refusals").append(make("dt", {}, `refused ${n}`), make("dd", {}, text));
-        }
+        const terms = (list) => list.flatMap(([it, text]) => [make("dt", { class: "mono" }, it), make("dd", {}, text)]);
+        $("refusals").append(...terms(Object.entries(REFUSALS).map(([n, text]) => [`refused ${n}`, text])));
+        $("lines").append(...terms(Object.values(FORMS)));
         $("text").addEventListener("focus", () => (this.is_noted = false));
         $("text").addEventListener("input", () => this.write());
         $("undo").addEventListener("click", () => this.undo());
@@ -96,7 +96,7 @@ class Page {
         this.example = example_of(text);
         if (!is_written) $("text").value = text;
         const { twin } = this.example ?? {};
-        this.runs = [run(this.module, text, this.runs?.[0]), ...(twin ? [run(this.module, twin.script)] : [])];
+        this.runs = [text, ...(twin ? [twin.script] : [])].map((it) => run(this.module, it));
         const { fault } = this.runs[0];
         $("fault").textContent = fault ? `${fault.name}, line ${fault.line}: expected ${fault.expected}.` : "";
         $("text").setAttribute("aria-invalid", fault ? "true" : "false");

@@ -1,16 +1,24 @@
-// The history as lanes: the shapes that crates/script_picture draws, with its classes, measures and order.
-import { NOBODY } from "./book.mjs";
+// The history as lanes, one for each place that does something: on the page, and as an SVG file of its own.
+import { NOBODY, all, is_refused } from "./book.mjs";
+import { answer_text, lines_of } from "./script.mjs";
 
 export const ROW = 28; // the height of a row, in pixels
-const CHARACTER = 8; // the width of a character
+const CHARACTER = 8; // at most the width of a character
 const GAP = 44; // between two boxes
+const MARGIN = 16; // of a file
+const SAMPLE = 84; // the width of a sample in a file's legend
 
-const WORDS = { inside: "inside", signals: "signals" };
+// What the shapes mean: the class, the text of a sample, the meaning. An arrow has no text.
+const LEGEND = [
+    ["inside", "inside", "is inside"], ["waits", "c0 p5", "waits: condition, priority"],
+    ["signals", "signals", "signalled, waits to return"], ["called", "called 1", "was notified; 1 resumes first"],
+    ["arrow", "", "a waiter resumes"], ["arrow back", "", "a signaller returns"], ["arrow call", "", "a notification"],
+];
 
 // Returns what a place does in a state, as { kind, text }, or null if it is outside.
 function doing(state, place) {
-    if (state.inside === place) return { kind: "inside", text: WORDS.inside };
-    if (state.signallers.includes(place)) return { kind: "signals", text: WORDS.signals };
+    if (state.inside === place) return { kind: "inside", text: "inside" };
+    if (state.signallers.includes(place)) return { kind: "signals", text: "signals" };
     const called = state.called.indexOf(place);
     if (called >= 0) return { kind: "called", text: `called ${called + 1}` };
     const at = state.conditions.findIndex(({ waiting }) => waiting.some((it) => it.place === place));
@@ -88,8 +96,8 @@ function hand_off(before, after, lane_of, y) {
 }
 
 // Returns { lanes, shapes }: the shapes as lines of an SVG, with the first box at `left` and the first row at `top`.
-// As in script_picture, arrows are under the boxes if there are Mesa conditions, and over them if there are none.
-export function drawn(states, { places, mesa }, left, top) {
+// Arrows are under the boxes if there are Mesa conditions, and over them if there are none.
+function drawn(states, { places, mesa }, left, top) {
     const rows = states.slice(1);
     const lanes = lanes_of(rows, places, left);
     const lane_of = (place) => lanes.find((it) => it.place === place);
@@ -102,27 +110,30 @@ export function drawn(states, { places, mesa }, left, top) {
     return { lanes, shapes: [dashes, calls, ...order].flat() };
 }
 
+const band = (row, top, width) => `<rect class="band" x="1" y="${top + ROW * row}" width="${width}" height="${ROW}"/>`;
+const bands = (rows, top, width) => all(rows).filter((row) => row % 2 === 0).map((row) => band(row, top, width));
+const size_of = (width, height) => `width="${width}" height="${height}" viewBox="0 0 ${width} ${height}"`;
+const edge_of = (lanes) => (lanes.length > 0 ? lanes.at(-1).middle + lanes.at(-1).half : 0);
+const name_of = (rows, lanes) =>
+    `A chart of ${rows} rows, one for each step, and ${lanes.length} lanes, one for each place that enters.`;
+
 // Returns { svg, lanes, width } for the page: `drawn` with bands under the rows, and marks that `mark` moves. The veil
 // over the rows to come lies under the texts, so that these stay legible.
 export function picture(states, sizes) {
     const { lanes, shapes } = drawn(states, sizes, 12, 0);
     const rows = states.length - 1;
-    const last = lanes.at(-1);
-    const width = last ? last.middle + last.half + 12 : 80;
-    const height = ROW * rows + 6;
-    const band = (row) => `<rect class="band" x="0" y="${ROW * row}" width="4000" height="${ROW}"/>`;
-    const bands = [...Array(rows).keys()].filter((row) => row % 2 === 0).map(band);
-    const name =
-        `A chart of ${rows} rows, one for each step, and ${lanes.length} lanes, one for each place that enters. ` +
-        "The list of steps before it has each call with its answer.";
-    const size = `width="${width}" height="${height}" viewBox="0 0 ${width} ${height}" preserveAspectRatio="xMinYMin"`;
+    const [width, height] = [Math.max(80, edge_of(lanes) + 12), ROW * rows + 6];
+    const name = `${name_of(rows, lanes)} The list of steps before it has each call with its answer.`;
     const veil = `<rect class="future" x="0" y="${height}" width="4000" height="${height}"/>`;
     const here = `<rect class="here" x="1" y="-99" width="${width - 2}" height="${ROW}" rx="4"/>`;
-    const is_text = (it) => it.startsWith("<text");
-    const inner = [...bands, ...shapes.filter((it) => !is_text(it)), veil, ...shapes.filter(is_text), here];
-    const tag = `<svg xmlns="http://www.w3.org/2000/svg" ${size} role="img" aria-label="${name}">`;
+    const [texts, others] = [shapes.filter(is_text), shapes.filter((it) => !is_text(it))];
+    const inner = [...bands(rows, 0, 4000), ...others, veil, ...texts, here];
+    const says = `preserveAspectRatio="xMinYMin" role="img" aria-label="${name}"`;
+    const tag = `<svg xmlns="http://www.w3.org/2000/svg" ${size_of(width, height)} ${says}>`;
     return { svg: `${tag}${inner.join("")}</svg>`, lanes, width };
 }
+
+const is_text = (shape) => shape.startsWith("<text");
 
 // Marks the row of the last step that was done, and veils the rows after it.
 export function mark(svg, at) {
@@ -132,24 +143,57 @@ export function mark(svg, at) {
     svg.querySelector(".future").setAttribute("y", at * ROW);
 }
 
-// Returns the page's rules for a picture: its colours, which are those of the light page, and the looks of its shapes.
-function rules() {
-    const is_one = ({ selectorText: it }) => it === ":root" || it?.startsWith("svg ") || it?.endsWith(", svg text");
-    return [...document.styleSheets[0].cssRules].filter(is_one).map((it) => it.cssText).join("\n");
+const word = (kind, x, y, inner) => `<text class="${kind}" x="${x}" y="${y}">${inner}</text>`;
+
+// Returns the shapes of a sample of the legend, whose left top is at x and y.
+function sample([kind, text], x, y) {
+    const half = SAMPLE / 2 - 6;
+    if (text) return box({ middle: x + half, half }, { kind, text, from: 0, to: 1 }, y);
+    const ends = [{ middle: x, half: 0 }, { middle: x + 2 * half, half: 0 }];
+    return arrow(...ends, y + ROW / 2, { is_back: kind === "arrow back", is_call: kind === "arrow call" });
 }
 
-// Returns the text of an SVG file: `drawn` with a line for each step, and the places over the lanes.
-export function file(states, sizes, lines) {
-    const [margin, top] = [12, 34];
-    const left = 2 * margin + CHARACTER * Math.max(...lines.map((it) => it.length));
-    const { lanes, shapes } = drawn(states, sizes, left, top);
-    const last = lanes.at(-1);
-    const [width, height] = [last ? last.middle + last.half + margin : left, top + ROW * lines.length + margin];
-    const text = (x, y, inner, style = "") => `<text x="${x}" y="${y}"${style}>${inner}</text>`;
-    const step = (line, row) => text(margin, top + ROW * row + 18, line, ' style="text-anchor:start"');
-    const heads = lanes.map(({ place, middle }) => text(middle, 22, `place ${place}`));
-    const page = `<rect width="${width}" height="${height}" class="blank"/>`;
-    const size = `width="${width}" height="${height}" viewBox="0 0 ${width} ${height}"`;
-    const parts = [`<style>\n${rules()}\n</style>`, page, ...heads, ...lines.map(step), ...shapes];
-    return `<svg xmlns="http://www.w3.org/2000/svg" ${size}>\n${parts.join("\n")}\n</svg>\n`;
+// Returns the legend for the page: of each kind of shape a sample and its meaning.
+export function legend() {
+    const svg = (it) => `<svg ${size_of(SAMPLE, ROW)}>${sample(it, 2, 0).join("")}</svg>`;
+    return LEGEND.map((it) => `<span>${svg(it)}${it[2]}</span>`).join("");
+}
+
+// Returns { shapes, width, height }: the legend of a file, of the kinds that are in `used`: boxes left, arrows right.
+function legend_of(used, top) {
+    const kinds = LEGEND.filter(([kind]) => used.some((it) => it.includes(`class="${kind}"`)));
+    const columns = [kinds.filter(([, text]) => text), kinds.filter(([, text]) => !text)];
+    const wide = (column) => 2 * MARGIN + SAMPLE + CHARACTER * Math.max(0, ...column.map(([, , it]) => it.length));
+    const lefts = [MARGIN, wide(columns[0])];
+    const entry = (it, row, left) => {
+        const y = top + ROW * row;
+        return [...sample(it, left, y), word("note", left + SAMPLE, y + 18, it[2])];
+    };
+    const shapes = columns.flatMap((column, at) => column.flatMap((it, row) => entry(it, row, lefts[at])));
+    const width = columns[1].length > 0 ? lefts[1] + wide(columns[1]) - MARGIN : lefts[1];
+    return { shapes, width, height: ROW * Math.max(...columns.map((it) => it.length)) };
+}
+
+// Returns a run as the text of an SVG file with this style, or null if nothing can be drawn of it.
+export function file({ text, answers, sizes, state }, style) {
+    if (answers.length === 0 || !state(0)) return null;
+    const [header] = lines_of(text);
+    const top = 44;
+    const steps = answers.map((it) => `${it.text} → ${answer_text(it)}`);
+    const left = MARGIN + CHARACTER * Math.max(...[header, ...steps].map((it) => it.length)) + MARGIN;
+    const { lanes, shapes } = drawn(all(answers.length + 1).map(state), sizes, left, top);
+    const foot = top + ROW * answers.length + 12;
+    const meaning = legend_of(shapes, foot);
+    const [width, height] = [Math.max(edge_of(lanes) + MARGIN, meaning.width), foot + meaning.height + 10];
+    const kind = ({ code }) => (is_refused(code) ? "refused" : "step");
+    const inner = [
+        `<title>${header}: ${name_of(answers.length, lanes)}</title>`, `<style>\n${style.trim()}\n</style>`,
+        `<rect class="ground" x="0.5" y="0.5" width="${width - 1}" height="${height - 1}" rx="8"/>`,
+        word("title", MARGIN, 28, header), ...lanes.map((it) => word("head", it.middle, 28, `place ${it.place}`)),
+        ...bands(answers.length, top, width - 2),
+        ...steps.map((it, row) => word(kind(answers[row]), MARGIN, top + ROW * row + 18, it)),
+        ...shapes, ...meaning.shapes,
+    ];
+    const tag = `<svg xmlns="http://www.w3.org/2000/svg" ${size_of(width, height)} role="img">`;
+    return `${tag}\n${inner.join("\n")}\n</svg>\n`;
 }

@@ -1,14 +1,24 @@
 // The text of a script: its grammar, which is that of crates/hoare_script, and its answers as that program spells them.
 import { MOST_CONDITIONS, MOST_PLACES, NOBODY, STEPS, answer_all, is_refused, look } from "./book.mjs";
 
-export const MOST_STEPS = 400; // a limit of this page, which replays the whole script for each state that it shows
+const MOST_STEPS = 400; // a limit of this page, which replays the whole script for each state that it shows
 const MOST_BYTES = 256; // in a line
-const MOST_WORD = 18446744073709551615n; // the greatest number of 64 bits
+export const MOST_WORD = 18446744073709551615n; // the greatest number of 64 bits
 
 const WIDTHS = { ...STEPS, queue: 1, first: 1 };
-const FORMS = {
-    enter: "enter K", leave: "leave K", wait: "wait K C P", signal: "signal K C", pass: "pass K C",
-    notify: "notify K C", broadcast: "broadcast K C", queue: "queue C", first: "first C",
+
+// The form of each line, and what it means.
+export const FORMS = {
+    monitor: ["monitor P C M", "the first line: P places, C conditions, the last M (or none) of them Mesa conditions"],
+    enter: ["enter K", "place K enters"],
+    wait: ["wait K C P", "K waits on condition C with priority P: the least resumes first"],
+    signal: ["signal K C", "K hands the monitor to the first waiter on C, and returns later"],
+    pass: ["pass K C", "the same as K’s last act: K is outside then"],
+    leave: ["leave K", "K leaves"],
+    notify: ["notify K C", "K notifies the first waiter on the Mesa condition C, and stays inside"],
+    broadcast: ["broadcast K C", "K notifies every waiter on it"],
+    queue: ["queue C", "does any place wait on C?"],
+    first: ["first C", "the priority of the first waiter on C"],
 };
 const HEADER =
     "“monitor P C” or “monitor P C M”: P 1 to 64 places, C 1 to 8 conditions, the last M of them Mesa conditions";
@@ -22,7 +32,8 @@ export const REFUSALS = {
     6: "the condition is of the other kind",
 };
 
-function number(word) {
+// Returns the number of a word, or null.
+export function number(word) {
     if (!/^(0|[1-9][0-9]*)$/.test(word)) return null;
     const value = BigInt(word);
     return value > MOST_WORD ? null : value;
@@ -50,7 +61,7 @@ function parse_header(line) {
 function expected(line) {
     const [name] = line.split(" ");
     if (name === "monitor") return "a step: only the first line is a “monitor”";
-    if (Object.hasOwn(FORMS, name)) return `“${FORMS[name]}”, with one space between and no 0 before a number`;
+    if (Object.hasOwn(FORMS, name)) return `“${FORMS[name][0]}”, with one space between and no 0 before a number`;
     return "enter, wait, signal, pass, leave, notify, broadcast, queue or first, and its numbers";
 }
 
@@ -85,7 +96,7 @@ function fault_of_header(header, sizes) {
 
 // Returns a script: { sizes, commands: [{ name, words, line, text }], fault }. `fault` is null or
 // { name, line, expected }; the commands end before it.
-export function parse(text) {
+function parse(text) {
     const [header, ...lines] = lines_of(text);
     const sizes = parse_header(header ?? "");
     const first_fault = fault_of_header(header, sizes);
@@ -108,17 +119,10 @@ export function answer_text({ name, code, priority }) {
     return code === NOBODY ? "free" : `${code}`;
 }
 
-// Returns how many of the first steps are those of the run `last` too, or -1 if its monitor is another one.
-function count_shared(last, text, answers) {
-    if (lines_of(last?.text ?? "")[0] !== lines_of(text)[0]) return -1;
-    const differing = answers.findIndex((it, at) => it.text !== last.answers[at]?.text);
-    return differing < 0 ? answers.length : differing;
-}
-
 // Runs a script. Returns what `parse` does, with `answers`, and `state(at)`, the state after `at` steps (null if there
 // is no monitor). The sizes are numbers then. `is_large` is true if the page has no place or no condition left for its
-// experiments: then there are answers, and no states. The states of the run `last` that this one shares are kept.
-export function run(module, text, last = null) {
+// experiments: then there are answers, and no states.
+export function run(module, text) {
     const script = parse(text);
     const nothing = { ...script, text, answers: [], state: () => null };
     if (!script.sizes) return nothing;
@@ -128,11 +132,7 @@ export function run(module, text, last = null) {
     if (sizes.places > MOST_PLACES || sizes.conditions > MOST_CONDITIONS) {
         return { ...nothing, sizes, answers, is_large: true };
     }
-    const shared = count_shared(last, text, answers);
-    const kept = new Map([...(last?.kept ?? [])].filter(([at]) => at <= shared));
-    const state = (at) => {
-        if (!kept.has(at)) kept.set(at, look(module, sizes, answers.slice(0, at)));
-        return kept.get(at);
-    };
-    return { ...script, sizes, text, answers, state, kept };
+    const states = [];
+    const state = (at) => (states[at] ??= look(module, sizes, answers.slice(0, at)));
+    return { ...script, sizes, text, answers, state };
 }

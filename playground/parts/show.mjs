@@ -1,6 +1,6 @@
 // One run of a script on the page: a sentence on the step, the data with rest and ready, the lists, and the lanes.
 import { MOST_CONDITIONS, MOST_PLACES, NOBODY, all, is_refused } from "./book.mjs";
-import { ROW, file, mark, picture } from "./picture.mjs";
+import { ROW, file, legend, mark, picture } from "./picture.mjs";
 import { HIGH, WIDE } from "./scenes.mjs";
 import { data_after, owed, waiting_priorities } from "./schedulers.mjs";
 import { answer_text } from "./script.mjs";
@@ -31,12 +31,6 @@ export function names_of(labels, scheduler) {
     const chip = (at) => labels?.chips?.[at] ?? labels?.places?.[at] ?? `${at}`;
     return { place, condition, chip };
 }
-
-const LEGEND = [
-    ["inside", "inside"], ["waits", "waits: condition, priority"], ["signals", "signalled, waits to return"],
-    ["called", "called: notified; 1 resumes first"], ["on", "a waiter resumes"], ["back", "a signaller returns"],
-    ["calls", "a notification"],
-];
 
 // Returns the places that were refused an enter because the monitor wasn't free, and did nothing since.
 function refused_at_enter(answers) {
@@ -84,11 +78,11 @@ export class Show {
         this.heads = make("div", { class: "heads", "aria-hidden": "true" });
         const corner = make("div", { class: "corner", "aria-hidden": "true" }, "step", make("span", {}, "answer"));
         this.scroll = make("div", { class: "card chart" }, corner, this.heads, this.steps, this.lanes);
-        const spans = LEGEND.map(([kind, text]) => make("span", { class: `l-${kind}` }, text));
-        const legend = make("p", { class: "legend", "aria-hidden": "true" }, ...spans);
+        const meaning = make("p", { class: "legend", "aria-hidden": "true" });
+        meaning.innerHTML = legend();
         const first = make("div", {}, this.banner, ...controls, this.data, this.stage);
         const left = make("div", { class: "column" }, first, ...under[0]);
-        const right = make("div", { class: "column" }, make("div", {}, this.scroll, legend), ...under[1]);
+        const right = make("div", { class: "column" }, make("div", {}, this.scroll, meaning), ...under[1]);
         const heading = make("h2", { class: title ? "run-title" : "unseen" }, title ?? "The monitor");
         this.section = make("section", { class: "run", "aria-label": title ?? "The monitor" }, heading, left, right);
         this.chips = new Map();
@@ -150,37 +144,33 @@ export class Show {
         this.build_stage();
     }
 
-    // Returns the lanes with the steps as the text of an SVG file, or null if there are none.
+    // Returns the text of an SVG file, or null.
     file() {
-        const { answers, sizes } = this.ran;
-        if (!this.ran.state(0) || answers.length === 0) return null;
-        const states = all(answers.length + 1).map((at) => this.ran.state(at));
-        return file(states, sizes, answers.map((it) => `${it.text} → ${answer_text(it)}`));
+        return file(this.ran, document.getElementById("picture-style").textContent);
+    }
+
+    // Returns the zone of a list of places, with a heading, and keeps the list.
+    zone(kind, heading, more = "") {
+        const list = make("ul", { class: "chips", role: "list", "aria-label": `${heading}${more}` });
+        this.lists[kind] = [...(this.lists[kind] ?? []), list];
+        const head = make("h3", {}, heading, make("span", { class: "kind" }, more));
+        return make("div", { class: `zone ${kind}-zone` }, head, list);
     }
 
     build_stage() {
         const { sizes } = this.ran;
-        const list = (label) => make("ul", { class: "chips", role: "list", "aria-label": label });
-        const zone = (kind, head, chips) =>
-            make("div", { class: `zone ${kind}-zone` }, make("h3", {}, ...[head].flat()), chips);
-        const kind_of = (text) => make("span", { class: "kind" }, text);
-        const name = (at) => this.names.condition(at);
-        this.zones = {
-            outside: list("Outside"), refused: list("Refused: the monitor wasn’t free"), inside: list("Inside"),
-            signallers: list("Waiting signallers, in order"), called: list("Notified, in order"),
-            conditions: all(sizes.conditions).map((at) => list(`Waiting on ${name(at)}, in order`)),
-        };
-        const z = this.zones;
-        const notified = () => zone("called", ["Notified, resume next ", kind_of("(in order)")], z.called);
-        const called = sizes.mesa === 0 ? [] : [notified()];
-        const signallers = zone("signallers", ["Signallers, return first ", kind_of("(in order)")], z.signallers);
-        const next = make("div", { class: `next${called.length === 0 ? " alone" : ""}` }, signallers, ...called);
-        const kind = (at) => kind_of(at >= sizes.conditions - sizes.mesa ? "(Mesa)" : "(Hoare)");
-        const conditions = z.conditions.map((it, at) => zone("condition", [`Waiting on ${name(at)} `, kind(at)], it));
-        const outside = [zone("outside-places", "Outside", z.outside), zone("refused", "Refused at enter", z.refused)];
-        const below = make("div", { class: "conditions" }, ...conditions);
-        const monitor = make("div", { class: "monitor" }, zone("inside", "Inside", z.inside), next, below);
-        this.stage.append(make("div", { class: "outside" }, ...outside), monitor);
+        this.lists = {};
+        const order = " (in order)";
+        const kind = (at) => (at >= sizes.conditions - sizes.mesa ? "(Mesa)" : "(Hoare)");
+        const waiting = (at) => this.zone("condition", `Waiting on ${this.names.condition(at)}`, ` ${kind(at)}`);
+        const outside = [this.zone("outside-places", "Outside"), this.zone("refused", "Refused at enter")];
+        const next = [this.zone("signallers", "Signallers, return first", order)];
+        if (sizes.mesa > 0) next.push(this.zone("called", "Notified, resume next", order));
+        const monitor = [
+            this.zone("inside", "Inside"), make("div", { class: `next${sizes.mesa > 0 ? "" : " alone"}` }, ...next),
+            make("div", { class: "conditions" }, ...all(sizes.conditions).map(waiting)),
+        ];
+        this.stage.append(make("div", { class: "outside" }, ...outside), make("div", { class: "monitor" }, ...monitor));
     }
 
     // Returns the chip of a place. It shows a short name, and `p` before a priority; a screen reader has both in words.
@@ -216,18 +206,17 @@ export class Show {
     }
 
     fill(state, refused) {
-        const put = (into, chips, empty) =>
-            into.replaceChildren(...(chips.length > 0 ? chips : [make("li", { class: "empty" }, empty)]));
-        const z = this.zones;
-        const outside = state.outside.filter((it) => !refused.includes(it));
-        put(z.outside, outside.map((it) => this.chip(it, "out")), "none");
-        put(z.refused, refused.map((it) => this.chip(it, "refused")), "none");
-        put(z.inside, state.inside === NOBODY ? [] : [this.chip(state.inside, "inside")], "none: the monitor is free");
-        put(z.signallers, state.signallers.map((it) => this.chip(it, "signals")), "none");
-        put(z.called, state.called.map((it) => this.chip(it, "called")), "none");
-        for (const [at, { waiting }] of state.conditions.entries()) {
-            put(z.conditions[at], waiting.map((it) => this.chip(it.place, "waits", it.priority)), "none");
-        }
+        const put = (places, kind, zone, at = 0, empty = "none") => {
+            const chips = places.map((it) => this.chip(it.place ?? it, kind, it.priority ?? null));
+            const shown = chips.length > 0 ? chips : [make("li", { class: "empty" }, empty)];
+            this.lists[zone]?.[at].replaceChildren(...shown);
+        };
+        put(state.outside.filter((it) => !refused.includes(it)), "out", "outside-places");
+        put(refused, "refused", "refused");
+        put(state.inside === NOBODY ? [] : [state.inside], "inside", "inside", 0, "none: the monitor is free");
+        put(state.signallers, "signals", "signallers");
+        put(state.called, "called", "called");
+        state.conditions.forEach((it, at) => put(it.waiting, "waits", "condition", at));
     }
 
     // Shows the data, and what of rest and ready the step owes. Returns that as one line.

@@ -1,15 +1,13 @@
-use Rattle.std.proofs.Common.{◌≡◌, ◌<◌, ℕ, List, length, ap, sym, subst, arith, rules, Option, Err, Ok}
+use Rattle.std.proofs.Common.{◌≡◌, ◌<◌, ℕ, List, length, ap, subst, arith, rules, Err, Ok}
 use Rattle.std.proofs.lemmas.Bool.Decides.{nat_tests}
 use Rattle.std.proofs.lemmas.List.{nil_from_length}
 use Rattle.line_text.specs.declared.line.Ended.{Ended}
 use Rattle.line_text.specs.declared.line.Ended.TheVariants as how
 use Rattle.line_text.specs.Line.{IsLineFor}
 use Rattle.line_text.specs.Streams.{reader_inside, writer_inside}
-use Rattle.wait_book.specs.Contents.{Contents}
-use Rattle.hoare_script.specs.declared.runs.TheConstants.{MOST_BYTES}
 use Rattle.hoare_script.proofs.Running as running
 use Rattle.hoare_script.proofs.Running.{Known}
-use Rattle.hoare_script.proofs.runs.answer_lines.Goals as goal
+use Rattle.hoare_script.proofs.runs.run_watched.Goals as goal
 
 -- if a line has its end, there is room for that end
 line_room : (room : ℕ) (l : List ℕ) (f : Ended) → f ≡ how.Line → IsLineFor room l (Ok f) → length l < room
@@ -21,7 +19,7 @@ lines-init g c =
     let w = g.W.Write.contents (writer_inside c.args.writer.now) in
     record {
       numbered = omega arith;
-      goes = subst (λ (b : Option Contents). Known k k w w 1 MOST_BYTES b) (sym c.requires) (running.Known-start k w);
+      goes = running.Known-start k w;
       calls = omega arith;
       bytes = omega arith;
       same_reader = search rules;

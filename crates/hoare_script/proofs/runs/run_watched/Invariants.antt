@@ -3,7 +3,7 @@ use Rattle.line_text.specs.Streams.{bytes_given, has_read_failed, has_write_fail
 use Rattle.line_text.specs.Streams.{reader_name, writer_inside, writer_name}
 use Rattle.hoare_script.specs.declared.runs.TheConstants.{MOST_BYTES}
 use Rattle.hoare_script.proofs.Running.{Known}
-use Rattle.hoare_script.proofs.runs.answer_lines.Given as goal
+use Rattle.hoare_script.proofs.runs.run_watched.Given as goal
 
 abbrev pub invariant-lines : goal.invariant-lines
 invariant-lines g l = record {

@@ -1,6 +1,6 @@
 //! The queue book for C: each function that C calls. `bindings/c/zaulinte_book.h` declares them.
 //!
-//! `book` is a word and two pointers of C's, all 0 at first; `alloc` is nothing to C. No function has a premise: each
+//! `book` is a word and two pointers of C's, all 0 at first; a `Global` is nothing to C. No function has a premise: each
 //! returns for every number, and if there is no book. A returned place of a book that has a history is below 64.
 #![tactic(auto)]
 
@@ -11,12 +11,18 @@ ghost use Rattle.hoare_law.specs.Sizes.{sizes_of};
 ghost use Rattle.wait_book.specs.declared.steps.MakeRefused.{MakeRefused};
 ghost use Rattle.wait_book.specs.declared.steps.Step.TheVariants as steps;
 ghost use Rattle.wait_book.specs.Contents.{make_refusal};
-ghost use Rattle.book_handle.specs.Held.{Holds};
-ghost use Rattle.book_handle.specs.Codes.{LacksBook, RefusalKeeps, Steps, Tells, make_code, outside_code, queue_code};
-ghost use Rattle.book_handle.specs.Codes.{first_or, condition_code, count_or};
+ghost use Rattle.book_c.specs.Held.{Holds};
+ghost use Rattle.book_c.specs.Codes.{LacksBook, RefusalKeeps, Steps, Tells, make_code, outside_code, queue_code};
+ghost use Rattle.book_c.specs.Codes.{first_or, condition_code, count_or};
 
-use book_handle::place::Held;
+mod codes;
+pub mod handle;
+pub mod place;
+
+use codes::{IS_MADE, NO_BOOK, NO_MEMORY};
+use place::Held;
 use std::alloc::Global;
+use wait_book::book::Book;
 use wait_book::steps::Step;
 
 /// Makes a book of 1 to 64 places and 1 to 8 conditions, the last `mesa` of which are Mesa conditions, and returns 0.
@@ -39,7 +45,17 @@ pub extern "C" fn zaulinte_book_make(
         × Holds book.new.live book.new.handle.value (opened (sizes_of conditions mesa places) tt))
         ⊎ ((result ≡ 111) × (book.new ≡ book.old)) }
 {
-    book.make(alloc, places, conditions, mesa)
+    if book.live != 0 {
+        return IS_MADE;
+    }
+    let made = match Book::make(alloc, places as usize, conditions as usize, mesa as usize) {
+        Ok(made) => made,
+        Err(refused) => return codes::make_code(refused),
+    };
+    match book.held().keep(alloc, made) {
+        Ok(()) => 0,
+        Err(_) => NO_MEMORY,
+    }
 }
 
 /// Frees the book, and returns 0. Refused: 107 no book.
@@ -49,38 +65,42 @@ pub extern "C" fn zaulinte_book_free(alloc: Global, book: &mut Held) -> u64
     ensures answer { book.old.live ≡ 1 → result ≡ 0 }
     ensures none { LacksBook book.old.live book.old book.new result }
 {
-    book.free(alloc)
+    let Some(taken) = book.held().take(alloc) else {
+        return NO_BOOK;
+    };
+    drop(taken);
+    0
 }
 
 /// Lets `place` enter. Returns the place that is inside then, or 64 if none is. Refused, in this order: 107 no book,
 /// 101 no such place, 102 not free, 103 not outside. A refusal changes nothing.
 #[unsafe(no_mangle)]
-pub extern "C" fn zaulinte_book_enter(alloc: Global, book: &mut Held, place: u64) -> u64
+pub extern "C" fn zaulinte_book_enter(_alloc: Global, book: &mut Held, place: u64) -> u64
     ensures of { Steps book.old.live book.old.handle.value (steps.Enter place) book.new.live
         book.new.handle.value result }
     ensures refused { RefusalKeeps book.old.handle.value book.new.handle.value result }
     ensures none { LacksBook book.old.live book.old book.new result }
 {
-    book.step(alloc, Step::Enter(place))
+    book.step(Step::Enter(place))
 }
 
 /// Lets `place` leave. Returns the place that is inside then, or 64 if none is. Refused, in this order: 107 no book,
 /// 101 no such place, 104 not inside. A refusal changes nothing.
 #[unsafe(no_mangle)]
-pub extern "C" fn zaulinte_book_leave(alloc: Global, book: &mut Held, place: u64) -> u64
+pub extern "C" fn zaulinte_book_leave(_alloc: Global, book: &mut Held, place: u64) -> u64
     ensures of { Steps book.old.live book.old.handle.value (steps.Leave place) book.new.live
         book.new.handle.value result }
     ensures refused { RefusalKeeps book.old.handle.value book.new.handle.value result }
     ensures none { LacksBook book.old.live book.old book.new result }
 {
-    book.step(alloc, Step::Leave(place))
+    book.step(Step::Leave(place))
 }
 
 /// Lets `place` wait on `condition` with `priority`. Returns the place that is inside then, or 64 if none is. Refused,
 /// in this order: 107 no book, 101 no such place, 104 not inside, 105 no such condition. A refusal changes nothing.
 #[unsafe(no_mangle)]
 pub extern "C" fn zaulinte_book_wait(
-    alloc: Global,
+    _alloc: Global,
     book: &mut Held,
     place: u64,
     condition: u64,
@@ -91,7 +111,7 @@ pub extern "C" fn zaulinte_book_wait(
     ensures refused { RefusalKeeps book.old.handle.value book.new.handle.value result }
     ensures none { LacksBook book.old.live book.old book.new result }
 {
-    book.step(alloc, Step::Wait(place, condition, priority))
+    book.step(Step::Wait(place, condition, priority))
 }
 
 /// Lets `place` signal `condition`, one of Hoare's. Returns the place that is inside then, or 64 if none is. Refused,
@@ -99,7 +119,7 @@ pub extern "C" fn zaulinte_book_wait(
 /// refusal changes nothing.
 #[unsafe(no_mangle)]
 pub extern "C" fn zaulinte_book_signal(
-    alloc: Global,
+    _alloc: Global,
     book: &mut Held,
     place: u64,
     condition: u64,
@@ -109,7 +129,7 @@ pub extern "C" fn zaulinte_book_signal(
     ensures refused { RefusalKeeps book.old.handle.value book.new.handle.value result }
     ensures none { LacksBook book.old.live book.old book.new result }
 {
-    book.step(alloc, Step::Signal(place, condition))
+    book.step(Step::Signal(place, condition))
 }
 
 /// Lets `place` signal `condition`, one of Hoare's, as its last act. Returns the place that is inside then, or 64 if
@@ -117,7 +137,7 @@ pub extern "C" fn zaulinte_book_signal(
 /// condition. A refusal changes nothing.
 #[unsafe(no_mangle)]
 pub extern "C" fn zaulinte_book_pass(
-    alloc: Global,
+    _alloc: Global,
     book: &mut Held,
     place: u64,
     condition: u64,
@@ -127,7 +147,7 @@ pub extern "C" fn zaulinte_book_pass(
     ensures refused { RefusalKeeps book.old.handle.value book.new.handle.value result }
     ensures none { LacksBook book.old.live book.old book.new result }
 {
-    book.step(alloc, Step::Pass(place, condition))
+    book.step(Step::Pass(place, condition))
 }
 
 /// Lets `place` notify the waiter on the Mesa condition `condition` that a signal would resume. Returns the place that
@@ -135,7 +155,7 @@ pub extern "C" fn zaulinte_book_pass(
 /// such condition, 106 one of Hoare's conditions. A refusal changes nothing.
 #[unsafe(no_mangle)]
 pub extern "C" fn zaulinte_book_notify(
-    alloc: Global,
+    _alloc: Global,
     book: &mut Held,
     place: u64,
     condition: u64,
@@ -145,7 +165,7 @@ pub extern "C" fn zaulinte_book_notify(
     ensures refused { RefusalKeeps book.old.handle.value book.new.handle.value result }
     ensures none { LacksBook book.old.live book.old book.new result }
 {
-    book.step(alloc, Step::Notify(place, condition))
+    book.step(Step::Notify(place, condition))
 }
 
 /// Lets `place` notify all waiters on the Mesa condition `condition`. Returns the place that is inside then, or 64 if
@@ -153,7 +173,7 @@ pub extern "C" fn zaulinte_book_notify(
 /// Hoare's conditions. A refusal changes nothing.
 #[unsafe(no_mangle)]
 pub extern "C" fn zaulinte_book_broadcast(
-    alloc: Global,
+    _alloc: Global,
     book: &mut Held,
     place: u64,
     condition: u64,
@@ -163,62 +183,77 @@ pub extern "C" fn zaulinte_book_broadcast(
     ensures refused { RefusalKeeps book.old.handle.value book.new.handle.value result }
     ensures none { LacksBook book.old.live book.old book.new result }
 {
-    book.step(alloc, Step::Broadcast(place, condition))
+    book.step(Step::Broadcast(place, condition))
 }
 
 /// Returns the place that is inside, or 64 if none is. Refused: 107 no book.
 #[unsafe(no_mangle)]
-pub extern "C" fn zaulinte_book_now(alloc: Global, book: &mut Held) -> u64
+pub extern "C" fn zaulinte_book_now(_alloc: Global, book: &mut Held) -> u64
     ensures of { (h : History (Unit {0})) → Holds book.old.live book.old.handle.value h
         → Holds book.new.live book.new.handle.value h
         × Tells h result }
     ensures none { LacksBook book.old.live book.old book.new result }
 {
-    book.now(alloc)
+    let Some(book) = book.held().get_mut() else {
+        return NO_BOOK;
+    };
+    codes::inside(book)
 }
 
 /// Returns the number of places, at most 64. Refused: 107 no book.
 #[unsafe(no_mangle)]
-pub extern "C" fn zaulinte_book_places(alloc: Global, book: &mut Held) -> u64
+pub extern "C" fn zaulinte_book_places(_alloc: Global, book: &mut Held) -> u64
     ensures of { (h : History (Unit {0})) → Holds book.old.live book.old.handle.value h
         → Holds book.new.live book.new.handle.value h
         × (result ≡ h.sizes.places) × (result ≤ 64) }
     ensures none { LacksBook book.old.live book.old book.new result }
 {
-    book.places(alloc)
+    let Some(book) = book.held().get_mut() else {
+        return NO_BOOK;
+    };
+    book.places() as u64
 }
 
 /// Returns the number of conditions, at most 8, Mesa conditions included. Refused: 107 no book.
 #[unsafe(no_mangle)]
-pub extern "C" fn zaulinte_book_conditions(alloc: Global, book: &mut Held) -> u64
+pub extern "C" fn zaulinte_book_conditions(_alloc: Global, book: &mut Held) -> u64
     ensures of { (h : History (Unit {0})) → Holds book.old.live book.old.handle.value h
         → Holds book.new.live book.new.handle.value h
         × (result ≡ h.sizes.conditions) × (result ≤ 8) }
     ensures none { LacksBook book.old.live book.old book.new result }
 {
-    book.conditions(alloc)
+    let Some(book) = book.held().get_mut() else {
+        return NO_BOOK;
+    };
+    book.conditions() as u64
 }
 
 /// Returns 1 if `place` is outside, else 0. Refused, in this order: 107 no book, 101 no such place.
 #[unsafe(no_mangle)]
-pub extern "C" fn zaulinte_book_outside(alloc: Global, book: &mut Held, place: u64) -> u64
+pub extern "C" fn zaulinte_book_outside(_alloc: Global, book: &mut Held, place: u64) -> u64
     ensures of { (h : History (Unit {0})) → Holds book.old.live book.old.handle.value h
         → Holds book.new.live book.new.handle.value h
         × (result ≡ outside_code h place) }
     ensures none { LacksBook book.old.live book.old book.new result }
 {
-    book.outside(alloc, place)
+    let Some(book) = book.held().get_mut() else {
+        return NO_BOOK;
+    };
+    codes::outside(book, place)
 }
 
 /// Returns 1 if a place waits on `condition`, else 0. Refused, in this order: 107 no book, 105 no such condition.
 #[unsafe(no_mangle)]
-pub extern "C" fn zaulinte_book_queue(alloc: Global, book: &mut Held, condition: u64) -> u64
+pub extern "C" fn zaulinte_book_queue(_alloc: Global, book: &mut Held, condition: u64) -> u64
     ensures of { (h : History (Unit {0})) → Holds book.old.live book.old.handle.value h
         → Holds book.new.live book.new.handle.value h
         × (result ≡ queue_code h condition) }
     ensures none { LacksBook book.old.live book.old book.new result }
 {
-    book.queue(alloc, condition)
+    let Some(book) = book.held().get_mut() else {
+        return NO_BOOK;
+    };
+    codes::queue(book, condition)
 }
 
 /// Returns 1 if a place waits on `condition`, and writes the priority of the place that a signal would resume to
@@ -226,7 +261,7 @@ pub extern "C" fn zaulinte_book_queue(alloc: Global, book: &mut Held, condition:
 /// `priority` stays as it is.
 #[unsafe(no_mangle)]
 pub extern "C" fn zaulinte_book_first(
-    alloc: Global,
+    _alloc: Global,
     book: &mut Held,
     condition: u64,
     priority: &mut u64,
@@ -238,14 +273,17 @@ pub extern "C" fn zaulinte_book_first(
     ensures none { book.old.live ≡ 0
         → (result ≡ 107) × (book.new ≡ book.old) × (priority.new ≡ priority.old) }
 {
-    book.first(alloc, condition, priority)
+    let Some(book) = book.held().get_mut() else {
+        return NO_BOOK;
+    };
+    codes::first(book, condition, priority)
 }
 
 /// Writes the number of places that wait on `condition` to `count`, and returns 0. Refused, in this order: 107 no book,
 /// 105 no such condition; then `count` stays as it is.
 #[unsafe(no_mangle)]
 pub extern "C" fn zaulinte_book_count(
-    alloc: Global,
+    _alloc: Global,
     book: &mut Held,
     condition: u64,
     count: &mut u64,
@@ -257,5 +295,8 @@ pub extern "C" fn zaulinte_book_count(
     ensures none { book.old.live ≡ 0
         → (result ≡ 107) × (book.new ≡ book.old) × (count.new ≡ count.old) }
 {
-    book.count(alloc, condition, count)
+    let Some(book) = book.held().get_mut() else {
+        return NO_BOOK;
+    };
+    codes::count(book, condition, count)
 }

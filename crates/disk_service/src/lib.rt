@@ -8,7 +8,7 @@ pub mod running;
 pub mod serving;
 mod threads;
 
-// The parts of the service. They are public for its tests, which are in `service_trials`.
+// The parts of the service. They are public for its tests, which are in `program_trials`.
 pub mod caller;
 pub mod clock;
 pub mod data;

@@ -1,7 +1,7 @@
 //! A running door and its places for C: each function that C calls. `bindings/c/zaulinte_door.h` declares them.
 //!
-//! A door and a place are each a word and two pointers of C's, all 0 at first; `alloc` is nothing to C. No function has
-//! a premise: each returns for every number, and if nothing is held. No function blocks, and none wakes a thread: an
+//! A door and a place are each a word and two pointers of C's, all 0 at first; a `Global` is nothing to C. No function
+//! has a premise: each returns for every number, and if nothing is held. No function blocks, and none wakes a thread: an
 //! act that releases the monitor returns the place to wake, below 64, or 64 if none is to be woken.
 #![tactic(auto)]
 
@@ -9,14 +9,23 @@ ghost use Rattle.std.specs.Prelude.{◌≡◌, ◌≢◌, ◌<◌, ◌≤◌};
 ghost use Rattle.hoare_law.specs.Sizes.{sizes_of};
 ghost use Rattle.door_place.specs.States.{AsksFirst, AsksQueue, Counts, Gets, where_is};
 ghost use Rattle.door_place.specs.Deeds as act;
-ghost use Rattle.door_handle.specs.KeeperSlots.{Collected, WasClosed};
-ghost use Rattle.door_handle.specs.Held.{Acted, GaveHeld, GaveNothing, GivenBack, IsSame, Made};
+ghost use Rattle.door_c.specs.KeeperSlots.{Collected, WasClosed};
+ghost use Rattle.door_c.specs.Held.{Acted, GaveHeld, GaveNothing, GivenBack, IsSame, Made};
 
-use door_handle::door::HeldDoor;
-use door_handle::place::HeldPlace;
+pub mod door;
+pub mod handle;
+pub mod keeper_slot;
+pub mod place;
+
+use door::HeldDoor;
 use door_place::act::{
     Broadcast, Leave, Notify, Set, Signal, SignalLeave, TryEnter, TryReturn, Wait,
 };
+use door_place::codes::{DONE, IN_USE, IS_HELD, NO_MEMORY, NOTHING_HELD};
+use door_place::keeper::Keeper;
+use hoare_law::event::Sizes;
+use keeper_slot::KeeperSlot;
+use place::HeldPlace;
 use std::alloc::Global;
 
 /// Makes a door of 1 to 64 places and 1 to 8 conditions, the last `mesa` of which are Mesa conditions, with the word
@@ -35,11 +44,30 @@ pub extern "C" fn zaulinte_door_make(
     ensures made { door.old.live ≡ 0 → Made (sizes_of conditions mesa places) value
         door.new.live door.new.handle.value.keeper result }
 {
-    door.make(alloc, places, conditions, mesa, value)
+    if door.live != 0 {
+        return IS_HELD;
+    }
+    let sizes = Sizes {
+        places: places as usize,
+        conditions: conditions as usize,
+        mesa: mesa as usize,
+    };
+    let keeper = match Keeper::make(alloc, sizes, value) {
+        Ok(keeper) => keeper,
+        Err(code) => return code,
+    };
+    let slot = KeeperSlot {
+        keeper: Some(keeper),
+    };
+    match door.held().keep(alloc, slot) {
+        Ok(()) => DONE,
+        Err(_) => NO_MEMORY,
+    }
 }
 
 /// Gives a place out, for a thread of its own, and returns its number, below 64. Refused, in this order: 108 `place`
-/// holds one already, 107 no door is held, 114 all places are taken, 111 an allocation failed.
+/// holds one already, 107 no door is held, 114 all places are taken, 111 an allocation failed: then the place is given
+/// back, if its slot isn't in use. A refusal leaves `place` as it was.
 #[unsafe(no_mangle)]
 pub extern "C" fn zaulinte_door_give_out(
     alloc: Global,
@@ -56,18 +84,48 @@ pub extern "C" fn zaulinte_door_give_out(
     ensures nothing { place.old.live ≡ 0 → door.old.live ≡ 1 → 64 ≤ result
         → GaveNothing door.old.handle.value.keeper door.new.handle.value.keeper result }
 {
-    door.give_out(alloc, place)
+    if place.live != 0 {
+        return IS_HELD;
+    }
+    let Some(slot) = door.held().get_mut() else {
+        return NOTHING_HELD;
+    };
+    let Some(keeper) = &mut slot.keeper else {
+        return NOTHING_HELD;
+    };
+    let given = match keeper.give_out() {
+        Ok(given) => given,
+        Err(code) => return code,
+    };
+    let number = given.number();
+    match place.held().keep(alloc, given) {
+        Ok(()) => number,
+        Err(mut given) => {
+            given.give_back();
+            NO_MEMORY
+        }
+    }
 }
 
 /// Gives a place back to its door, and returns 0: `place` then holds none. Refused, in this order: 107 none is held,
-/// 103 it isn't outside, 102 another thread has its slot in hand at this moment.
+/// 103 it isn't outside, 102 another thread has its slot in hand at this moment; then the place is held as it was.
 #[unsafe(no_mangle)]
 pub extern "C" fn zaulinte_door_give_back(alloc: Global, place: &mut HeldPlace) -> u64
     ensures given { place.old.live ≡ 1
         → GivenBack place.old.handle.value place.new.live place.new.handle.value result }
     ensures none { place.old.live ≡ 0 → (result ≡ 107) × (place.new ≡ place.old) }
 {
-    place.give_back(alloc)
+    let Some(lent) = place.held().get_mut() else {
+        return NOTHING_HELD;
+    };
+    let code = lent.give_back();
+    if code != DONE {
+        return code;
+    }
+    if let Some(given) = place.held().take(alloc) {
+        drop(given);
+    }
+    DONE
 }
 
 /// Takes the places in hand that were given back, and returns 0. Refused: 107 no door is held.
@@ -77,12 +135,17 @@ pub extern "C" fn zaulinte_door_collect(door: &mut HeldDoor) -> u64
         × Collected door.old.handle.value.keeper door.new.handle.value.keeper }
     ensures none { door.old.live ≡ 0 → (result ≡ 107) × (door.new ≡ door.old) }
 {
-    door.collect()
+    let Some(slot) = door.held().get_mut() else {
+        return NOTHING_HELD;
+    };
+    slot.collect();
+    DONE
 }
 
 /// Closes the door if all of its places are in hand, writes its word to `value`, and returns 0. Refused, in this order:
 /// 107 no door is held, 112 a place isn't in hand (it was given out, and not given back and collected), or a
-/// `zaulinte_door_give_back` in another thread hasn't returned.
+/// `zaulinte_door_give_back` in another thread hasn't returned; then the door is held as it was, and `value` stays as
+/// it is.
 #[unsafe(no_mangle)]
 pub extern "C" fn zaulinte_door_close(alloc: Global, door: &mut HeldDoor, value: &mut u64) -> u64
     ensures closed { door.old.live ≡ 1 → result ≡ 0
@@ -91,7 +154,17 @@ pub extern "C" fn zaulinte_door_close(alloc: Global, door: &mut HeldDoor, value:
         × (door.new.handle.value.keeper ≡ door.old.handle.value.keeper) × (value.new ≡ value.old) }
     ensures none { door.old.live ≡ 0 → (result ≡ 107) × (door.new ≡ door.old) × (value.new ≡ value.old) }
 {
-    door.close(alloc, value)
+    let Some(slot) = door.held().get_mut() else {
+        return NOTHING_HELD;
+    };
+    let Some(word) = slot.close() else {
+        return IN_USE;
+    };
+    *value = word;
+    if let Some(slot) = door.held().take(alloc) {
+        drop(slot);
+    }
+    DONE
 }
 
 /// Attempts to let the place enter. Returns 64 if it is inside then, or 102 if the monitor isn't free at this moment.
@@ -197,13 +270,16 @@ pub extern "C" fn zaulinte_door_set(place: &mut HeldPlace, value: u64) -> u64
 }
 
 /// Writes the word in the monitor to `value`, and returns 0. Refused, in this order: 107 no place is held, 104 not
-/// inside.
+/// inside; then `value` stays as it is.
 #[unsafe(no_mangle)]
 pub extern "C" fn zaulinte_door_get(place: &mut HeldPlace, value: &mut u64) -> u64
     ensures asked { place.old.live ≡ 1 → IsSame place.old.handle.value place.new.live place.new.handle.value
         × Gets place.old.handle.value.state value.old value.new result }
     ensures none { place.old.live ≡ 0 → (result ≡ 107) × (place.new ≡ place.old) × (value.new ≡ value.old) }
 {
+    let Some(place) = place.held().get_mut() else {
+        return NOTHING_HELD;
+    };
     place.get(value)
 }
 
@@ -215,6 +291,9 @@ pub extern "C" fn zaulinte_door_count(place: &mut HeldPlace, condition: u64) -> 
         × Counts place.old.handle.value.door place.old.handle.value.state condition result }
     ensures none { place.old.live ≡ 0 → (result ≡ 107) × (place.new ≡ place.old) }
 {
+    let Some(place) = place.held().get_mut() else {
+        return NOTHING_HELD;
+    };
     place.count(condition)
 }
 
@@ -226,11 +305,15 @@ pub extern "C" fn zaulinte_door_queue(place: &mut HeldPlace, condition: u64) -> 
         × AsksQueue place.old.handle.value.door place.old.handle.value.state condition result }
     ensures none { place.old.live ≡ 0 → (result ≡ 107) × (place.new ≡ place.old) }
 {
+    let Some(place) = place.held().get_mut() else {
+        return NOTHING_HELD;
+    };
     place.queue(condition)
 }
 
 /// Returns 1 if a place waits on `condition`, and writes the priority of the place that a signal would resume to
-/// `priority`. Else returns 0. Refused, in this order: 107 no place is held, 104 not inside, 105 no such condition.
+/// `priority`. Else returns 0. Refused, in this order: 107 no place is held, 104 not inside, 105 no such condition. If
+/// it doesn't return 1, `priority` stays as it is.
 #[unsafe(no_mangle)]
 pub extern "C" fn zaulinte_door_first(
     place: &mut HeldPlace,
@@ -242,6 +325,9 @@ pub extern "C" fn zaulinte_door_first(
         priority.old priority.new result }
     ensures none { place.old.live ≡ 0 → (result ≡ 107) × (place.new ≡ place.old) × (priority.new ≡ priority.old) }
 {
+    let Some(place) = place.held().get_mut() else {
+        return NOTHING_HELD;
+    };
     place.first(condition, priority)
 }
 
@@ -252,5 +338,8 @@ pub extern "C" fn zaulinte_door_state(place: &mut HeldPlace) -> u64
         × (result ≡ where_is place.old.handle.value.state) }
     ensures none { place.old.live ≡ 0 → (result ≡ 107) × (place.new ≡ place.old) }
 {
+    let Some(place) = place.held().get_mut() else {
+        return NOTHING_HELD;
+    };
     place.where_is()
 }

@@ -64,31 +64,6 @@ pub fn run_watched<R: Read, W: Write>(
     reader: &mut WatchedReader<'_, R>,
     writer: &mut WatchedWriter<'_, W>,
 ) -> Result<(), ScriptFault>
-    ensures written { ReadsFrom R.remaining reader.old reader.new (λ text left.
-        Writes text left (W.contents (writer_inside writer.old))
-        (W.contents (writer_inside writer.new)) result) }
-    ensures read { ReadsFrom R.remaining reader.old reader.new (λ text left.
-        Leaves text left result) }
-    ensures counts { HasRead reader.old reader.new 1048577 1048577 }
-    ensures read_fault { has_read_failed reader.new
-        ≡ (has_read_failed reader.old || is_read_fault result) }
-    ensures write_fault { has_write_failed writer.new
-        ≡ (has_write_failed writer.old || is_write_fault result) }
-    ensures same_reader { reader_name reader.new ≡ reader_name reader.old }
-    ensures same_writer { writer_name writer.new ≡ writer_name writer.old }
-{
-    let mut opened = None;
-    answer_lines(alloc, reader, writer, &mut opened)
-}
-
-// Reads the lines of a script, from the first one on, and writes the answers.
-fn answer_lines<R: Read, W: Write>(
-    alloc: Global,
-    reader: &mut WatchedReader<'_, R>,
-    writer: &mut WatchedWriter<'_, W>,
-    opened: &mut Option<Opened>,
-) -> Result<(), ScriptFault>
-    requires { opened.old ≡ None }
     ensures answer { ReadsFrom R.remaining reader.old reader.new (λ text left.
         Tells text left (W.contents (writer_inside writer.old))
         (W.contents (writer_inside writer.new)) result) }
@@ -100,6 +75,7 @@ fn answer_lines<R: Read, W: Write>(
     ensures same_reader { reader_name reader.new ≡ reader_name reader.old }
     ensures same_writer { writer_name writer.new ≡ writer_name writer.old }
 {
+    let mut opened = None;
     let mut line = ArrayVec::new();
     let mut room = MOST_BYTES;
     let mut number: u64 = 1;
@@ -109,9 +85,9 @@ fn answer_lines<R: Read, W: Write>(
             Err(LineFault::TooLong) => return Err(ScriptFault::LineTooLong(number)),
             Err(LineFault::TooMuch) => return Err(ScriptFault::TooMuch),
             Ok(Ended::Last) if line.is_empty() => return end_before(number),
-            Ok(Ended::Last) => return one_line(alloc, writer, opened, number, line.as_slice()),
+            Ok(Ended::Last) => return one_line(alloc, writer, &mut opened, number, line.as_slice()),
             Ok(Ended::Line) => {
-                if let Err(fault) = one_line(alloc, writer, opened, number, line.as_slice()) {
+                if let Err(fault) = one_line(alloc, writer, &mut opened, number, line.as_slice()) {
                     return Err(fault);
                 }
                 room -= line.len() + 1;

@@ -1,0 +1,93 @@
+-- The codes that C gets for results and refusals.
+use Rattle.std.specs.Prelude.{ℕ, ◌≡◌, ◌<◌, nat_lt, if◌then◌else◌, length, Option, Some, None}
+use Rattle.hoare_law.specs.declared.event.Event.{Event}
+use Rattle.hoare_law.specs.declared.event.History.{History}
+use Rattle.hoare_law.specs.Turns.{turn, outside}
+use Rattle.hoare_law.specs.Waiting.{chosen, priority_of}
+use Rattle.hoare_law.specs.Priorities.{priorities}
+use Rattle.wait_book.specs.declared.steps.Next.{Next}
+use Rattle.wait_book.specs.declared.steps.Next.TheVariants.{Free, For, Held}
+use Rattle.wait_book.specs.declared.steps.Step.{Step}
+use Rattle.wait_book.specs.declared.steps.StepRefused.{StepRefused}
+use Rattle.wait_book.specs.declared.steps.StepRefused.TheVariants.{NoPlace, NotFree, NotOutside, NotInside, NoCondition}
+use Rattle.wait_book.specs.declared.steps.StepRefused.TheVariants.{WrongKind}
+use Rattle.wait_book.specs.declared.steps.MakeRefused.{MakeRefused}
+use Rattle.wait_book.specs.declared.steps.MakeRefused.TheVariants.{BadPlaces, BadConditions, Memory}
+use Rattle.wait_book.specs.Contents.{Contents, IsOf, IsPlaceBelow, next_of}
+use Rattle.wait_book.specs.Stepping.{after_step, refusal_of}
+use Rattle.book_c.specs.Held.{Holds}
+
+-- the place that resumes or is inside, or 64 if the monitor is free
+abbrev pub code_of : Next → ℕ
+code_of Free = 64
+code_of (For k) = k
+code_of (Held k) = k
+
+abbrev pub refusal_code : StepRefused → ℕ
+refusal_code NoPlace = 101
+refusal_code NotFree = 102
+refusal_code NotOutside = 103
+refusal_code NotInside = 104
+refusal_code NoCondition = 105
+refusal_code WrongKind = 106
+
+abbrev pub make_code : MakeRefused → ℕ
+make_code BadPlaces = 109
+make_code BadConditions = 110
+make_code Memory = 111
+
+-- the code is whose turn it is after these events: the place that resumes or is inside, which is below 64, or 64 if the
+-- monitor is free
+pub record Tells (h : History (Unit {0})) (code : ℕ) : Type 0 where
+  pub is : code ≡ code_of (next_of (turn h.events))
+  pub below : IsPlaceBelow 64 (next_of (turn h.events))
+
+-- what a step made of a book of history h, and its code. Either it was done, and the code is that of the turn then. Or
+-- it was refused: the code is the refusal's, and the book is still of its history
+pub data Stepped (h : History (Unit {0})) (step : Step) (new : Contents) (code : ℕ) : Type 0 where
+  done : refusal_of h step ≡ None → IsOf new (after_step h step) → Tells (after_step h step) code
+      → Stepped h step new code
+  refused : (r : StepRefused) → refusal_of h step ≡ Some r → IsOf new h → code ≡ refusal_code r
+      → Stepped h step new code
+
+-- a step that finds a book (live is 1) of a history makes of it what the step says, and leaves it there
+abbrev pub Steps : ℕ → Contents → Step → ℕ → Contents → ℕ → Type 0
+Steps live old step live' new code =
+    (h : History (Unit {0})) → Holds live old h → (live' ≡ 1) × Stepped h step new code
+
+-- a refusal leaves the book as it was
+abbrev pub RefusalKeeps : Contents → Contents → ℕ → Type 0
+RefusalKeeps old new code = 64 < code → new ≡ old
+
+-- if there is no book (live is 0), the code is 107, and C's words are as they were
+abbrev pub LacksBook : {W : Type 0} → ℕ → W → W → ℕ → Type 0
+LacksBook live old new code = live ≡ 0 → (code ≡ 107) × (new ≡ old)
+
+-- 1 if the place is outside, else 0; or 101 if no place has this number
+abbrev pub outside_code : History (Unit {0}) → ℕ → ℕ
+outside_code h k = if nat_lt k h.sizes.places then (if outside k h.events then 1 else 0) else 101
+
+-- 1 if there is a value, else 0
+abbrev pub some_code : {X : Type 0} → Option X → ℕ
+some_code None = 0
+some_code (Some x) = 1
+
+-- 1 if a place waits on the condition, so that a signal would resume it, else 0; or 105 if no condition has this number
+abbrev pub queue_code : History (Unit {0}) → ℕ → ℕ
+queue_code h c = if nat_lt c h.sizes.conditions then some_code (chosen c h.events) else 105
+
+abbrev pub priority_or : Option (Event (Unit {0})) → ℕ → ℕ
+priority_or None kept = kept
+priority_or (Some e) kept = priority_of e
+
+-- the priority of the place that a signal would resume, or the former value if there is no such place or condition
+abbrev pub first_or : History (Unit {0}) → ℕ → ℕ → ℕ
+first_or h c kept = if nat_lt c h.sizes.conditions then priority_or (chosen c h.events) kept else kept
+
+-- 0 if a condition has this number, else 105
+abbrev pub condition_code : History (Unit {0}) → ℕ → ℕ
+condition_code h c = if nat_lt c h.sizes.conditions then 0 else 105
+
+-- the number of places that wait on the condition, or the former value if no condition has this number
+abbrev pub count_or : History (Unit {0}) → ℕ → ℕ → ℕ
+count_or h c kept = if nat_lt c h.sizes.conditions then length (priorities h.events c) else kept

@@ -1,10 +1,9 @@
-//! Tests of the law, the book, lines of a text, scripts and their pictures.
+//! Tests of the law, the book, lines of a text and scripts.
 
 mod books;
 mod compared;
 mod law;
 mod lines;
-mod pictures;
 mod scripts;
 mod shown;
 mod streams;

@@ -1,0 +1,4 @@
+pub mod Reading
+pub mod Does
+pub mod Steps
+pub mod Monitors

@@ -2,3 +2,4 @@ pub mod Reading
 pub mod Does
 pub mod Steps
 pub mod Monitors
+pub mod Rows

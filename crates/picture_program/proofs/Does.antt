@@ -34,7 +34,7 @@ use Rattle.wait_book.proofs.Times.{eq_self, one_apart}
 use Rattle.wait_book.proofs.Waiters.{on, places}
 use Rattle.picture_program.specs.declared.monitor.Lane.{Lane}
 use Rattle.picture_program.specs.declared.monitor.Lane.TheVariants as lanes
-use Rattle.picture_program.specs.Lanes.{Does, IsClaimed, last_by, last_of, left_by}
+use Rattle.picture_program.specs.Lanes.{Does, IsClaimed, last_by, last_of, left_by, numbered}
 
 -- a history and an event without data
 abbrev pub Log : Type 0
@@ -44,10 +44,6 @@ abbrev pub Act : Type 0
 Act = Event (Unit {0})
 
 -- what a place does by its own last event and its number among the notified
-abbrev pub numbered : ℕ → Lane → Lane
-numbered n (lanes.Waiting c p) = cond (n == 0) (lanes.Waiting c p) (lanes.Called n)
-numbered n l = l
-
 abbrev pub lane_of : Log → ℕ → Lane
 lane_of h k = numbered (notified_position h.events k) (last_of h k)
 
@@ -95,12 +91,14 @@ number_none n k (e ∷ es) all =
 number_some : (P : Act → Type 0) (n k : ℕ) (es : List Act) → All P es → 0 < position_from n k (map place_of es)
     → (e : Act) × (place_of e ≡ k) × P e
 number_some P n k [] all some = absurd (omega (arith, some))
-number_some P n k (e ∷ es) all some = by (place_of e == k) refl some
+number_some P n k (e ∷ es) all some =
+    by (place_of e == k) refl (number_some P (n + 1) k es (All-tail P e es all)) some
   where
-    by : (t : Bool) → (place_of e == k) ≡ t → 0 < cond t (n + 1) (position_from (n + 1) k (map place_of es))
-        → (x : Act) × (place_of x ≡ k) × P x
-    by true is more = (e, eqb-true (place_of e) k is, All-head P e es all)
-    by false is more = number_some P (n + 1) k es (All-tail P e es all) more
+    by : (t : Bool) → (place_of e == k) ≡ t
+        → (0 < position_from (n + 1) k (map place_of es) → (x : Act) × (place_of x ≡ k) × P x)
+        → 0 < cond t (n + 1) (position_from (n + 1) k (map place_of es)) → (x : Act) × (place_of x ≡ k) × P x
+    by true is later more = (e, eqb-true (place_of e) k is, All-head P e es all)
+    by false is later more = later more
 
 -- if all elements pass a test, each of them passes it
 all_pass : {X : Type 0} (p : X → Bool) (xs : List X) → list_all p xs ≡ true → All (λ x. p x ≡ true) xs
@@ -211,11 +209,15 @@ among k (u ∷ us) some = by (k == u) refl (λ is. among k us (omega (arith, som
 number_among : (n k : ℕ) (ws : List Waiter) → 0 < times k (places ws)
     → 0 < position_from n k (map place_of (map wait_of ws))
 number_among n k [] some = absurd (omega (arith, some))
-number_among n k (w ∷ ws) some = by (w.place == k) refl
+number_among n k (w ∷ ws) some =
+    by (w.place == k) refl
+    (λ is. number_among (n + 1) k ws (omega (arith, some, one_apart k w.place (eq_swap k w.place ∙ is))))
   where
-    by : (t : Bool) → (w.place == k) ≡ t → 0 < cond t (n + 1) (position_from (n + 1) k (map place_of (map wait_of ws)))
-    by true is = omega arith
-    by false is = number_among (n + 1) k ws (omega (arith, some, one_apart k w.place (eq_swap k w.place ∙ is)))
+    by : (t : Bool) → (w.place == k) ≡ t
+        → ((w.place == k) ≡ false → 0 < position_from (n + 1) k (map place_of (map wait_of ws)))
+        → 0 < cond t (n + 1) (position_from (n + 1) k (map place_of (map wait_of ws)))
+    by true is later = omega arith
+    by false is later = later is
 
 in_hand : (h : Log) (k m : ℕ) (t : Turn) → turn h.events ≡ t → IsClaimed t → 0 < times_in_hand k m t
     → turn h.events ≡ Held k

@@ -1,7 +1,10 @@
 -- A monitor stays at the end of its history, and its lanes show that history.
 use Rattle.std.proofs.Common.{◌≡◌, ◌<◌, ◌≤◌, ◌&&◌, ◌↔◌, ◌+◌, ℕ, Bool, true, false, cond, leb, List, length, slice_index_or}
-use Rattle.std.proofs.Common.{Option, None, Some, refl, ap, sym, ◌∙◌, subst, arith}
+use Rattle.std.proofs.Common.{Option, None, Some, refl, ap, slice_set, sym, ◌∙◌, subst, arith, ⊎_elim}
+use Rattle.std.proofs.lemmas.Bool.{cases_lt}
 use Rattle.std.proofs.lemmas.Bool.Decides.{nat_tests}
+use Rattle.std.proofs.lemmas.Grind.{get_or-set_at}
+use Rattle.std.proofs.lemmas.List.{get_or-set_other}
 use Rattle.hoare_law.specs.declared.event.Sizes.{Sizes}
 use Rattle.hoare_law.proofs.Held.{held_one}
 use Rattle.hoare_law.proofs.Opening.{turn-opened}
@@ -17,9 +20,9 @@ use Rattle.hoare_script.specs.Lines.{sizes_in}
 use Rattle.picture_program.specs.declared.monitor.Lane.{Lane}
 use Rattle.picture_program.specs.declared.monitor.Lane.TheVariants as lanes
 use Rattle.picture_program.specs.declared.monitor.Monitor.{Monitor}
-use Rattle.picture_program.specs.Lanes.{AreLanes, Does, IsAt, IsClaimed, last_of, opening}
-use Rattle.picture_program.proofs.Does.{Log, Does-lane, lane_of, numbered}
-use Rattle.picture_program.proofs.Steps.{acted, last_commanded}
+use Rattle.picture_program.specs.Lanes.{AreLanes, Does, IsAt, IsClaimed, last_commanded, last_of, numbered, opening}
+use Rattle.picture_program.proofs.Does.{Log, Does-lane, lane_of}
+use Rattle.picture_program.proofs.Steps.{acted}
 
 -- a book that was made has at most 64 places
 pub few_places : (n : Sizes) → make_refusal n ≡ None → n.places ≤ 64
@@ -71,3 +74,17 @@ pub one_inside : (h : Log) (drawn : List Lane) (j k : ℕ) → AreLanes h drawn 
     → slice_index_or drawn j lanes.Outside ≡ lanes.Inside → slice_index_or drawn k lanes.Outside ≡ lanes.Inside → j ≡ k
 one_inside h drawn j k are a b x y =
     held_one h.events j k ((are j a lanes.Inside).1 (sym x)) ((are k b lanes.Inside).1 (sym y))
+
+-- one more lane is what its place does
+pub lane_more : (h : Log) (drawn : List Lane) (n : ℕ) (l : Lane) → n < length drawn
+    → ((lane : Lane) → Does h n lane ↔ (lane ≡ l))
+    → ((k : ℕ) → k < n → (lane : Lane) → Does h k lane ↔ (lane ≡ slice_index_or drawn k lanes.Outside))
+    → (k : ℕ) → k < n + 1 → (lane : Lane)
+    → Does h k lane ↔ (lane ≡ slice_index_or (slice_set drawn n l) k lanes.Outside)
+lane_more h drawn n l within one done k below lane = ⊎_elim
+    (λ less. subst (λ (x : Lane). Does h k lane ↔ (lane ≡ x))
+    (sym (get_or-set_other drawn n k l lanes.Outside (λ e. absurd (omega (arith, less, e))))) (done k less lane))
+    (λ least. let same : k ≡ n = omega (arith, least, below) in
+    subst (λ (x : Lane). Does h k lane ↔ (lane ≡ x)) (sym (get_or-set_at drawn n k l lanes.Outside same within))
+    (subst (λ (j : ℕ). Does h j lane ↔ (lane ≡ l)) (sym same) (one lane)))
+    (cases_lt k n)

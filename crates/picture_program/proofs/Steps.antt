@@ -23,7 +23,7 @@ use Rattle.hoare_script.specs.declared.lines.Command.{Command}
 use Rattle.hoare_script.specs.declared.lines.Command.TheVariants.{Do, Queue, First}
 use Rattle.picture_program.specs.declared.monitor.Lane.{Lane}
 use Rattle.picture_program.specs.declared.monitor.Lane.TheVariants as lanes
-use Rattle.picture_program.specs.Lanes.{IsClaimed, actor, last_answered, last_left, last_of, left_as, left_by}
+use Rattle.picture_program.specs.Lanes.{IsClaimed, actor, last_answered, last_commanded, last_left, last_of, left_as, left_by}
 use Rattle.picture_program.specs.Rows.{after_commands}
 use Rattle.picture_program.proofs.Does.{Log, Act, inside_last, last_of-push}
 
@@ -41,11 +41,11 @@ IsMoved h s k before =
 -- after an event that releases the monitor the place that is owed it resumes
 released : (h : Log) (s : Step) (e : Act) (k : ℕ) → is_inside e ≡ false → place_of e ≡ actor s → left_by e ≡ left_as s
     → IsMoved (settled (with_event h e)) s k (last_of h k)
-released h s e k out same as =
+released h s e k out same leaves =
     let g : Log = with_event h e in
     by g (turn g.events) refl (given_up-left h e out)
     (last_of-push h e k ∙ ap (λ (j : ℕ). cond (j == k) (left_by e) (last_of h k)) same
-    ∙ ap (λ (l : Lane). cond (actor s == k) l (last_of h k)) as)
+    ∙ ap (λ (l : Lane). cond (actor s == k) l (last_of h k)) leaves)
   where
     moved : (g f : Log) (j : ℕ) → turn f.events ≡ Held j → last_of f k ≡ cond (j == k) lanes.Inside (last_of g k)
         → last_of g k ≡ last_left s k (last_of h k) → IsMoved f s k (last_of h k)
@@ -144,11 +144,6 @@ stepped h (Broadcast j c) k r = by (waiting c h.events)
     by (w ∷ ws) = stays_by h (Broadcast j c) (event.Broadcast j c tt) k refl refl (λ us vs. refl)
 
 -- what a place does after a command, by its answer
-abbrev pub last_commanded : Command → ℕ → Lane → Answer → Lane
-last_commanded (Do s) k before answer = last_answered s k before answer
-last_commanded (Queue c) k before answer = before
-last_commanded (First c) k before answer = before
-
 pub acted : (h : Log) (c : Command) (k : ℕ) → IsClaimed (turn h.events)
     → IsClaimed (turn (history_after h c).events)
     × (last_of (history_after h c) k ≡ last_commanded c k (last_of h k) (answer_to h c))

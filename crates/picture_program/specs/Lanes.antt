@@ -16,6 +16,8 @@ use Rattle.wait_book.specs.Contents.{IsOf}
 use Rattle.wait_book.specs.Numbers.{notified_position}
 use Rattle.hoare_script.specs.declared.answers.Answer.{Answer}
 use Rattle.hoare_script.specs.declared.answers.Answer.TheVariants.{Inside, Refused}
+use Rattle.hoare_script.specs.declared.lines.Command.{Command}
+use Rattle.hoare_script.specs.declared.lines.Command.TheVariants.{Do}
 use Rattle.hoare_script.specs.declared.lines.Header.{Header}
 use Rattle.hoare_script.specs.Lines.{sizes_in}
 use Rattle.picture_program.specs.declared.monitor.Lane.{Lane}
@@ -69,6 +71,16 @@ abbrev pub last_answered : Step → ℕ → Lane → Answer → Lane
 last_answered s k before (Refused r) = before
 last_answered s k before (Inside j) = if j == k then lanes.Inside else last_left s k before
 last_answered s k before _ = last_left s k before
+
+-- the same after a command: a question changes nothing
+abbrev pub last_commanded : Command → ℕ → Lane → Answer → Lane
+last_commanded (Do s) k before answer = last_answered s k before answer
+last_commanded _ k before answer = before
+
+-- a place that waits by its own last step was notified since, if it has a number among the notified
+abbrev pub numbered : ℕ → Lane → Lane
+numbered n (lanes.Waiting c p) = if n == 0 then lanes.Waiting c p else lanes.Called n
+numbered n l = l
 
 -- what the place of an event does after it, if it wasn't notified since
 abbrev pub left_by : Event (Unit {0}) → Lane

@@ -177,7 +177,11 @@ fn write_row<W: Write>(
     requires { IsRow script.now row.now }
 {
     let arrows = arrows_of(row);
-    let mut room = write_cell(writer, command_text(script.commands[row.number]), widths.steps)?;
+    let mut room = write_cell(
+        writer,
+        command_text(script.commands[row.number]),
+        widths.steps,
+    )?;
     for i in block.first..block.end {
         let column = column_at(widths, i);
         write_gap(writer, room, shaft_before(widths, i, &arrows))?;
@@ -326,7 +330,10 @@ fn write_remark<W: Write>(
     room: usize,
     remark: Text,
 ) -> io::Result<()> {
-    let length = block.length.saturating_add(GAP).saturating_add(remark.len());
+    let length = block
+        .length
+        .saturating_add(GAP)
+        .saturating_add(remark.len());
     if length <= TERMINAL {
         write_gap(writer, room, None)?;
     } else {

@@ -27,7 +27,11 @@ fn main(rt: HostRuntime) -> ExitCode {
         return report(&rt, Err(ScriptFault::Memory));
     };
     let mut reader = LineKeeper::new(ahead);
-    let end = draw_script(rt.alloc(), &mut WatchedReader::new(&mut reader), &mut writer);
+    let end = draw_script(
+        rt.alloc(),
+        &mut WatchedReader::new(&mut reader),
+        &mut writer,
+    );
     let code = report(&rt, end);
     let line = reader.last_line();
     if let Err(fault) = end

@@ -10,7 +10,8 @@ ghost use Rattle.hoare_script.specs.Runs.{is_read_fault};
 ghost use Rattle.picture_program.specs.declared.monitor.Lane.{Lane};
 ghost use Rattle.picture_program.specs.declared.monitor.Lane.TheVariants as states;
 ghost use Rattle.picture_program.specs.Faults.{header_fault};
-ghost use Rattle.picture_program.specs.Lanes.{AreLanes, Does, IsAt, actor, last_answered, left_as, opening};
+ghost use Rattle.picture_program.specs.Lanes.{AreLanes, Does, IsAt, actor, last_commanded, left_as, numbered};
+ghost use Rattle.picture_program.specs.Lanes.{opening};
 
 use hoare_script::ScriptFault;
 use hoare_script::answers::Answer;
@@ -70,10 +71,7 @@ impl Monitor {
             → (result ≡ answer_to h command) × IsAt self.new (history_after h command) }
     {
         let answer = self.opened.answer(command);
-        match command {
-            Command::Do(step) => move_places(&mut self.last, step, answer),
-            Command::Queue(_) | Command::First(_) => {}
-        }
+        move_places(&mut self.last, command, answer);
         answer
     }
 
@@ -82,16 +80,8 @@ impl Monitor {
         ensures { (h : History (Unit {0})) → IsAt self.now h → place < 64
             → (lane : Lane) → Does h place lane ↔ (lane ≡ result) }
     {
-        match lane_at(&self.last, place as u64) {
-            Lane::Waiting(condition, priority) => {
-                let number = self.opened.notified_position(place);
-                if number == 0 {
-                    return Lane::Waiting(condition, priority);
-                }
-                Lane::Called(number)
-            }
-            lane => lane,
-        }
+        let number = self.opened.notified_position(place);
+        numbered(number, lane_at(&self.last, place as u64))
     }
 
     /// Returns what each place does.
@@ -160,13 +150,26 @@ fn left_as(step: Step) -> Lane
     }
 }
 
-// Moves the places past a step: the place of the answer is inside, and the place of the step does what the step leaves
-// it doing. A refused step changes nothing.
-fn move_places(last: &mut Lanes, step: Step, answer: Answer)
+// Returns what a place does that did `last` by its own last step, by its number among the notified.
+fn numbered(number: usize, last: Lane) -> Lane
+    ensures { result ≡ numbered number last }
+{
+    match last {
+        Lane::Waiting(_, _) if number > 0 => Lane::Called(number),
+        _ => last,
+    }
+}
+
+// Moves the places past a command: the place of the answer is inside, and the place of the step does what the step
+// leaves it doing. A refused step and a question change nothing.
+fn move_places(last: &mut Lanes, command: Command, answer: Answer)
     ensures length { length last.new ≡ length last.old }
     ensures each { (k : ℕ) → k < length last.old → slice_index_or last.new k states.Outside
-        ≡ last_answered step k (slice_index_or last.old k states.Outside) answer }
+        ≡ last_commanded command k (slice_index_or last.old k states.Outside) answer }
 {
+    let Command::Do(step) = command else {
+        return;
+    };
     match answer {
         Answer::Refused(_) => {}
         Answer::Inside(place) => {

@@ -1,6 +1,6 @@
 -- Each place does one thing in a history that has a book: its own last event says which, and its number among the
 -- notified.
-use Rattle.std.proofs.Common.{◌≡◌, ◌==◌, ◌<◌, ◌+◌, ◌↔◌, not, ℕ, suc, Bool, true, false, cond, eqb-true, eq-eqb, arith}
+use Rattle.std.proofs.Common.{◌≡◌, ◌==◌, ◌<◌, ◌+◌, ◌↔◌, not, ℕ, suc, Bool, true, false, cond, eqb-true, arith}
 use Rattle.std.proofs.Common.{List, [], ◌∷◌, ◌++◌, map, Option, Some, None, refl, ap, sym, ◌∙◌, subst}
 use Rattle.std.specs.Prelude.{All}
 use Rattle.std.specs.List.{filter, list_all, Contains}
@@ -16,7 +16,7 @@ use Rattle.hoare_law.specs.declared.event.Event.TheVariants.{Broadcast}
 use Rattle.hoare_law.specs.declared.turn.Turn.{Turn}
 use Rattle.hoare_law.specs.declared.turn.Turn.TheVariants.{Free, Held, Owed, Return}
 use Rattle.hoare_law.specs.Events.{place_of, own, newest, with_event}
-use Rattle.hoare_law.specs.Waiting.{condition_of, priority_of, waiting, waits_on}
+use Rattle.hoare_law.specs.Waiting.{condition_of, priority_of, waiting}
 use Rattle.hoare_law.specs.Called.{called}
 use Rattle.hoare_law.specs.Legal.{IsLegal}
 use Rattle.hoare_law.specs.Turns.{is_signal, urgent, turn, is_out, outside}

@@ -11,7 +11,6 @@ use Rattle.picture_program.specs.declared.monitor.Lane.TheVariants as lanes
 use Rattle.picture_program.specs.declared.script.Script.{Script}
 use Rattle.picture_program.specs.Lanes.{AreLanes, opening}
 use Rattle.picture_program.specs.Rows.{HandsOff, IsDrawn, IsRow, history_before}
-use Rattle.picture_program.proofs.Does.{Log}
 use Rattle.picture_program.proofs.Monitors.{one_inside}
 use Rattle.picture_program.proofs.Steps.{after_commands-next}
 

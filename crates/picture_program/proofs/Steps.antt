@@ -18,7 +18,6 @@ use Rattle.wait_book.specs.declared.steps.StepRefused.TheVariants.{NoPlace, NotI
 use Rattle.wait_book.specs.Stepping.{is_held_by, act_refusal, kind_refusal, refusal_of, after_signal, after_pass}
 use Rattle.wait_book.specs.Stepping.{after_notify, after_broadcast, after_claim, settled, after_step}
 use Rattle.hoare_script.specs.Answers.{turn_answer, step_answer, history_by, answer_to, history_after}
-use Rattle.hoare_script.specs.declared.answers.Answer.{Answer}
 use Rattle.hoare_script.specs.declared.lines.Command.{Command}
 use Rattle.hoare_script.specs.declared.lines.Command.TheVariants.{Do, Queue, First}
 use Rattle.picture_program.specs.declared.monitor.Lane.{Lane}

@@ -1,6 +1,6 @@
 //! Tries the orders of small programs over monitors, and prints the outcome of each. If an argument names a program, it
 //! prints only the script of that program's bad order, or of its last run if a limit is met, for `hoare_script` and
-//! `script_picture`; the outcome goes to standard error.
+//! `picture_program`; the outcome goes to standard error.
 #![tactic(auto)]
 
 mod arguments;

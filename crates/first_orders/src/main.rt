@@ -74,7 +74,7 @@ fn verdict(found: &Found) -> &'static str {
 }
 
 // Prints how many orders there are, if all end right. Else prints the first bad order, or the order of the last run if
-// a limit is met, as a script for `hoare_script` and `script_picture`, and the verdict on standard error.
+// a limit is met, as a script for `hoare_script` and `picture_program`, and the verdict on standard error.
 fn main(rt: HostRuntime) -> io::Result<()> {
     let alloc = rt.alloc();
     let found = explore(rt, alloc, Workers, Limits::USUAL)?;

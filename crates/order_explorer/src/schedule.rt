@@ -105,7 +105,7 @@ fn add_standing(text: &mut String, place: usize, standing: ThreadState) -> Resul
 }
 
 impl Schedule {
-    /// Returns the script of the run, which `hoare_script` answers and `script_picture` draws. Refuses if an allocation
+    /// Returns the script of the run, which `hoare_script` answers and `picture_program` draws. Refuses if an allocation
     /// fails.
     pub fn script(&self, alloc: Global) -> Result<String, AllocError> {
         let threads = self.threads;

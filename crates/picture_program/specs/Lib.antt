@@ -1,1 +1,4 @@
-pub mod Requests
+pub mod Faults
+pub mod Lanes
+pub mod Rows
+pub mod Scripts

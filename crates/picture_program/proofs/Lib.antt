@@ -1,0 +1,5 @@
+pub mod Reading
+pub mod Does
+pub mod Steps
+pub mod Monitors
+pub mod Rows

@@ -1,9 +1,0 @@
-use Rattle.std.proofs.Common.{◌≡◌, take}
-use Rattle.script_picture.specs.Shown.{Shows, after_rows, opening}
-use Rattle.script_picture.proofs.svg.write_arrows.Given as goal
-
-abbrev pub invariant-rows : goal.invariant-rows
-invariant-rows g l = record {
-  shows : Shows (after_rows (opening l.fn.chart.header) (take l.row-index l.fn.chart.rows.items)) l.lanes.items;
-  crossed : l.crossed.row ≡ l.row-index;
-}

@@ -27,9 +27,8 @@ turns: TURNS for one thread; a tenth for each of several; a hundredth for hand-o
 with MICROS THREADS VISITS, visits of so many microseconds: each thread polls the clock inside, leaves, and polls it
        as long outside, VISITS times:
 visit: the whole time over all visits
-late_median, _99, _most: how late a thread entered that had to wait: the time since the thread before it wrote, just
-       before its leave, that it leaves; the median, 99 of 100, and the most
-waited: how long the entries took in all that had to wait
+late_median: how late a thread entered that had to wait: the time since the thread before it wrote, just before its
+       leave, that it leaves; the median, or 0 if none had to wait
 with --book, the steps of a book of queues alone, on one thread. Each figure is a mean: of book_broadcast_N,
        book_count_N and clock over TURNS / 63 calls, of all others over TURNS, less an incomplete last round:
 book_enter_leave: a place enters and leaves, and no place waits (64 places, 8 conditions)
@@ -43,7 +42,7 @@ size: the bytes of a book, without those on the heap
 book_notify: 63 waiters on a Mesa condition are notified one by one; the mean of a notify with 63, 62, .. 1 waiters
 book_broadcast_N: all N waiters on a Mesa condition are notified at once, 1, 8 or 63; these calls alone are measured
 book_count_N: N waiters are counted along the chain, as a broadcast does that returns how many it notified
-bench/run compares the doors with other monitors; bench/book takes the figures of the book";
+bench/run compares the doors with other monitors";
 
 /// Prints the names of the figures, and how the program is called. Returns an error if printing fails.
 pub fn show(rt: &impl Print) -> io::Result<()> {

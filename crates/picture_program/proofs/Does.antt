@@ -1,6 +1,6 @@
 -- Each place does one thing in a history that has a book: its own last event says which, and its number among the
 -- notified.
-use Rattle.std.proofs.Common.{◌≡◌, ◌==◌, ◌<◌, ◌+◌, ◌↔◌, not, ℕ, suc, Bool, true, false, cond, eqb-true, arith}
+use Rattle.std.proofs.Common.{◌≡◌, ◌==◌, ◌<◌, ◌+◌, ◌↔◌, not, ℕ, suc, zero, ◌⊎◌, inl, inr, ⊎_elim, Bool, true, false, cond, eqb-true, arith}
 use Rattle.std.proofs.Common.{List, [], ◌∷◌, ◌++◌, map, Option, Some, None, refl, ap, sym, ◌∙◌, subst}
 use Rattle.std.specs.Prelude.{All}
 use Rattle.std.specs.List.{filter, list_all, Contains}
@@ -230,60 +230,56 @@ in_hand h k m (Held j) is claimed some = by (k == j) refl
 in_hand h k m (Owed j c) is claimed some = absurd claimed
 in_hand h k m (Return j) is claimed some = absurd claimed
 
+-- one of four numbers whose sum isn't 0 isn't 0
+one_of : (a b c d : ℕ) → 0 < a + (b + (c + d)) → (0 < a) ⊎ ((0 < b) ⊎ ((0 < c) ⊎ (0 < d)))
+one_of (suc a) b c d some = inl (omega arith)
+one_of zero (suc b) c d some = inr (inl (omega arith))
+one_of zero zero (suc c) d some = inr (inr (inl (omega arith)))
+one_of zero zero zero d some = inr (inr (inr (omega (arith, some))))
+
 -- if no place is owed the monitor, each place does something
 Does-something : (b : Contents) (h : Log) (k : ℕ) → IsOf b h → IsClaimed (turn h.events) → (lane : Lane) × Does h k lane
 Does-something b h k o claimed = by (outside k h.events) refl
   where
-    by_turn : times k (places b.waiters) ≡ 0 → times k b.signallers ≡ 0 → times k (places b.called) ≡ 0
-        → 0 < times_in k b → (lane : Lane) × Does h k lane
-    by_turn n m l some = (
-      lanes.Inside,
-      in_hand h k (hoare_of b) (turn h.events) refl claimed
-          (omega (arith, n, m, l, some, ap (times_in_hand k (hoare_of b)) o.turn_is)),
-    )
+    waits : 0 < times k (places b.waiters) → (lane : Lane) × Does h k lane
+    waits some =
+        let ordered : (c : ℕ) → All (Contains (waiting c h.events)) (map wait_of (filter (on c) b.waiters)) =
+        λ c. All-same (Contains (waiting c h.events)) (map wait_of (filter (on c) b.waiters))
+        (in_order priority_of (waiting c h.events)) (o.waiters c)
+        (All-in_order priority_of (Contains (waiting c h.events)) (waiting c h.events)
+        (All-contains_itself (waiting c h.events))) in
+        let r : (w : Waiter) × (w.place ≡ k) × Contains (waiting w.condition h.events) (wait_of w) =
+        among_waiters (λ c. Contains (waiting c h.events)) k b.waiters ordered some in (
+          lanes.Waiting r.0.condition r.0.priority,
+          subst (λ (j : ℕ). Contains (waiting r.0.condition h.events) (Wait j r.0.condition r.0.priority tt)) r.1 r.2,
+        )
 
-    by_call : (t : Bool) → (times k (places b.called) == 0) ≡ t → times k (places b.waiters) ≡ 0
-        → times k b.signallers ≡ 0 → 0 < times_in k b → (lane : Lane) × Does h k lane
-    by_call true l n m some = by_turn n m (eqb-true (times k (places b.called)) 0 l) some
-    by_call false l n m some = (
+    signals : 0 < times k b.signallers → (lane : Lane) × Does h k lane
+    signals some =
+        (lanes.Signalling, subst (λ (us : List ℕ). Contains us k) (sym o.signallers) (among k b.signallers some))
+
+    calls : 0 < times k (places b.called) → (lane : Lane) × Does h k lane
+    calls some = (
       lanes.Called (notified_position h.events k),
       (
         subst (λ (es : List Act). 0 < position_from 0 k (map place_of es)) (sym o.called_are)
-            (number_among 0 k b.called (more_of (times k (places b.called)) l)),
+            (number_among 0 k b.called some),
         refl,
       ),
     )
 
-    by_signal : (t : Bool) → (times k b.signallers == 0) ≡ t → times k (places b.waiters) ≡ 0 → 0 < times_in k b
-        → (lane : Lane) × Does h k lane
-    by_signal true m n some = by_call (times k (places b.called) == 0) refl n (eqb-true (times k b.signallers) 0 m) some
-    by_signal false m n some = (
-      lanes.Signalling,
-      subst (λ (us : List ℕ). Contains us k) (sym o.signallers)
-          (among k b.signallers (more_of (times k b.signallers) m)),
+    holds : 0 < times_in_hand k (hoare_of b) b.turn → (lane : Lane) × Does h k lane
+    holds some = (
+      lanes.Inside,
+      in_hand h k (hoare_of b) (turn h.events) refl claimed
+          (subst (λ (t : Turn). 0 < times_in_hand k (hoare_of b) t) (sym o.turn_is) some),
     )
-
-    ordered : (c : ℕ) → All (Contains (waiting c h.events)) (map wait_of (filter (on c) b.waiters))
-    ordered c =
-        All-same (Contains (waiting c h.events)) (map wait_of (filter (on c) b.waiters))
-        (in_order priority_of (waiting c h.events)) (o.waiters c)
-        (All-in_order priority_of (Contains (waiting c h.events)) (waiting c h.events)
-        (All-contains_itself (waiting c h.events)))
-
-    by_wait : (t : Bool) → (times k (places b.waiters) == 0) ≡ t → 0 < times_in k b → (lane : Lane) × Does h k lane
-    by_wait true n some = by_signal (times k b.signallers == 0) refl (eqb-true (times k (places b.waiters)) 0 n) some
-    by_wait false n some =
-        let r : (w : Waiter) × (w.place ≡ k) × Contains (waiting w.condition h.events) (wait_of w) =
-        among_waiters (λ c. Contains (waiting c h.events)) k b.waiters ordered
-        (more_of (times k (places b.waiters)) n) in (
-          lanes.Waiting r.0.condition r.0.priority,
-          subst (λ (j : ℕ). Contains (waiting r.0.condition h.events) (Wait j r.0.condition r.0.priority tt))
-              r.1 r.2,
-        )
 
     by : (t : Bool) → outside k h.events ≡ t → (lane : Lane) × Does h k lane
     by true is = (lanes.Outside, is)
-    by false is = by_wait (times k (places b.waiters) == 0) refl (more_of (times_in k b) (sym (o.outside_are k) ∙ is))
+    by false is =
+        ⊎_elim waits (⊎_elim signals (⊎_elim calls holds))
+        (one_of _ _ _ _ (more_of (times_in k b) (sym (o.outside_are k) ∙ is)))
 
 -- and nothing but what its own last event and its number say
 pub Does-lane : (b : Contents) (h : Log) (k : ℕ) (lane : Lane) → IsOf b h → IsClaimed (turn h.events)

@@ -2,4 +2,3 @@ pub mod Reading
 pub mod Does
 pub mod Steps
 pub mod Monitors
-pub mod Rows

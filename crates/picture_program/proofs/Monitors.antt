@@ -6,7 +6,6 @@ use Rattle.std.proofs.lemmas.Bool.Decides.{nat_tests}
 use Rattle.std.proofs.lemmas.Grind.{get_or-set_at}
 use Rattle.std.proofs.lemmas.List.{get_or-set_other}
 use Rattle.hoare_law.specs.declared.event.Sizes.{Sizes}
-use Rattle.hoare_law.proofs.Held.{held_one}
 use Rattle.hoare_law.proofs.Opening.{turn-opened}
 use Rattle.wait_book.specs.declared.steps.MakeRefused.{MakeRefused}
 use Rattle.wait_book.specs.declared.steps.MakeRefused.TheVariants.{BadPlaces, BadConditions}
@@ -20,7 +19,7 @@ use Rattle.hoare_script.specs.Lines.{sizes_in}
 use Rattle.picture_program.specs.declared.monitor.Lane.{Lane}
 use Rattle.picture_program.specs.declared.monitor.Lane.TheVariants as lanes
 use Rattle.picture_program.specs.declared.monitor.Monitor.{Monitor}
-use Rattle.picture_program.specs.Lanes.{AreLanes, Does, IsAt, IsClaimed, last_commanded, last_of, numbered, opening}
+use Rattle.picture_program.specs.Lanes.{Does, IsAt, IsClaimed, last_commanded, last_of, numbered, opening}
 use Rattle.picture_program.proofs.Does.{Log, Does-lane, lane_of}
 use Rattle.picture_program.proofs.Steps.{acted}
 
@@ -68,12 +67,6 @@ lane_is m h k drawn at below is lane =
     let one : Does h k lane ↔ (lane ≡ lane_of h k) = Does-lane m.opened h k lane at.book at.claimed in
     let same : drawn ≡ lane_of h k = is ∙ ap (numbered (notified_position h.events k)) (at.each k below) in
     (λ d. one.0 d ∙ sym same, λ e. one.1 (e ∙ same))
-
--- at most one place is inside
-pub one_inside : (h : Log) (drawn : List Lane) (j k : ℕ) → AreLanes h drawn → j < 64 → k < 64
-    → slice_index_or drawn j lanes.Outside ≡ lanes.Inside → slice_index_or drawn k lanes.Outside ≡ lanes.Inside → j ≡ k
-one_inside h drawn j k are a b x y =
-    held_one h.events j k ((are j a lanes.Inside).1 (sym x)) ((are k b lanes.Inside).1 (sym y))
 
 -- one more lane is what its place does
 pub lane_more : (h : Log) (drawn : List Lane) (n : ℕ) (l : Lane) → n < length drawn

@@ -22,8 +22,9 @@ use Rattle.hoare_script.specs.declared.lines.Command.{Command}
 use Rattle.hoare_script.specs.declared.lines.Command.TheVariants.{Do, Queue, First}
 use Rattle.picture_program.specs.declared.monitor.Lane.{Lane}
 use Rattle.picture_program.specs.declared.monitor.Lane.TheVariants as lanes
-use Rattle.picture_program.specs.Lanes.{IsClaimed, actor, last_answered, last_commanded, last_left, last_of, left_as, left_by}
-use Rattle.picture_program.specs.Rows.{after_commands}
+use Rattle.picture_program.specs.Lanes.{IsClaimed, actor, last_answered, last_commanded, last_left, last_of, left_as, left_by, opening}
+use Rattle.picture_program.specs.declared.script.Script.{Script}
+use Rattle.picture_program.specs.Rows.{after_commands, history_before}
 use Rattle.picture_program.proofs.Does.{Log, Act, inside_last, last_of-push}
 
 -- the turn after one more event
@@ -166,3 +167,11 @@ after_commands-next h cs i d below = ap (λ (n : ℕ). after_commands h (take n 
     by g [] n less = absurd (omega (arith, less))
     by g (c ∷ ds) zero less = refl
     by g (c ∷ ds) (suc n) less = by (history_after g c) ds n (omega (arith, less))
+
+-- the same of a command that is read at an index
+pub history_next : (script : Script) (n : ℕ) (c : Command) → n < length script.commands.items
+    → c ≡ slice_index_or script.commands.items n c
+    → history_after (history_before script n) c ≡ history_before script (n + 1)
+history_next script n c below is =
+    ap (history_after (history_before script n)) is
+    ∙ sym (after_commands-next (opening script.header) script.commands.items n c below)

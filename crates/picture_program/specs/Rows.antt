@@ -1,5 +1,5 @@
 -- Which rows of a chart show the history of its script.
-use Rattle.std.specs.Prelude.{ℕ, ◌≡◌, ◌≢◌, ◌<◌, Bool, true, false, List, [], ◌∷◌, length, slice_index_or, take}
+use Rattle.std.specs.Prelude.{ℕ, ◌≡◌, ◌<◌, Bool, true, false, not, List, [], ◌∷◌, length, slice_index_or, take}
 use Rattle.hoare_law.specs.declared.event.History.{History}
 use Rattle.hoare_script.specs.Answers.{answer_to, history_after}
 use Rattle.hoare_script.specs.declared.lines.Command.{Command}
@@ -29,17 +29,9 @@ pub record IsRow (script : Script) (row : Row) : Type 0 where
       → AreLanes (history_after (history_before script row.number)
       (slice_index_or script.commands.items row.number d)) row.after
 
--- the lanes of a row show a history before it and one after it
-abbrev pub IsDrawn : Row → Type 0
-IsDrawn row = (g h : History (Unit {0})) × AreLanes g row.before × AreLanes h row.after
-
--- a row hands the monitor off from the place that is inside before it to another that is inside after it
-abbrev pub HandsOff : Row → ℕ → ℕ → Type 0
-HandsOff row j k =
-    (j < 64) × (k < 64) × (slice_index_or row.before j lanes.Outside ≡ lanes.Inside)
-    × (slice_index_or row.after k lanes.Outside ≡ lanes.Inside) × (j ≢ k)
-
--- a place waited before, and is notified after
-abbrev pub is_notified : Lane → Lane → Bool
-is_notified (lanes.Waiting c p) (lanes.Called n) = true
-is_notified _ _ = false
+-- an arrow of a row ends at a place that does this before and after it, from a place that is inside before it: the
+-- place is inside after it, and is another one, or it waits before and is notified after
+abbrev pub is_head : Lane → Lane → Bool → Bool
+is_head before lanes.Inside is_from = not is_from
+is_head (lanes.Waiting c p) (lanes.Called n) is_from = true
+is_head _ _ is_from = false

@@ -1,10 +1,11 @@
 //! The chart: a row for each step, a lane for each place that isn't idle. Lanes that a terminal has no room for are in
 //! further blocks below, each with all steps.
-ghost use Rattle.std.specs.Prelude.{◌≡◌, ◌||◌, ℕ, false, MatchOption};
+ghost use Rattle.std.specs.Prelude.{◌≡◌, ◌==◌, ◌||◌, false, slice_index_or};
 ghost use Rattle.hoare_script.specs.Runs.{is_read_fault};
 ghost use Rattle.line_text.specs.Streams.{has_read_failed};
 ghost use Rattle.picture_program.specs.Lanes.{IsAt, opening};
-ghost use Rattle.picture_program.specs.Rows.{HandsOff, IsDrawn, IsRow, is_notified};
+ghost use Rattle.picture_program.specs.Rows.{IsRow, is_head};
+ghost use Rattle.picture_program.specs.declared.monitor.Lane.TheVariants as states;
 
 use crate::monitor::{Lane, Lanes, Monitor, lane_at, place_that};
 use crate::script::{Script, open_script};
@@ -44,15 +45,6 @@ pub struct Row {
     answer: Answer,
     before: Lanes,
     after: Lanes,
-}
-
-/// The arrows of a row, from one place to each of the others, and the letter of their lines: `-` for a hand-off, `~` for
-/// notifications.
-#[derive(Drop)]
-struct Arrows {
-    from: usize,
-    to: ArrayVec<usize, 64>,
-    line: u8,
 }
 
 /// An arrow in a gap: its first letter, the letter of its line, and its last letter.
@@ -176,7 +168,6 @@ fn write_row<W: Write>(
 ) -> io::Result<()>
     requires { IsRow script.now row.now }
 {
-    let arrows = arrows_of(row);
     let mut room = write_cell(
         writer,
         command_text(script.commands[row.number]),
@@ -184,63 +175,12 @@ fn write_row<W: Write>(
     )?;
     for i in block.first..block.end {
         let column = column_at(widths, i);
-        write_gap(writer, room, shaft_before(widths, i, &arrows))?;
+        write_gap(writer, room, shaft_before(widths, i, row))?;
         let lane = lane_at(&row.after, column.place as u64);
         room = write_cell(writer, lane_text(lane), column.width)?;
     }
-    let shaft = shaft_before(widths, block.end, &arrows);
+    let shaft = shaft_before(widths, block.end, row);
     write_end(writer, widths, block, room, shaft, remark_text(row.answer))
-}
-
-// Returns the arrows of a row: its hand-off, or else its notifications, if there are any.
-fn arrows_of(row: &Row) -> Option<Arrows>
-    requires { IsDrawn row.now }
-{
-    let mut to = ArrayVec::new();
-    if let Some((from, next)) = hand_off(row) {
-        let _ = to.try_push(next);
-        return Some(Arrows {
-            from,
-            to,
-            line: b'-',
-        });
-    }
-    for place in 0..64 {
-        if is_notified(row.before[place], row.after[place]) {
-            let _ = to.try_push(place);
-        }
-    }
-    let from = place_that(&row.before, Lane::Inside)?;
-    Some(Arrows {
-        from,
-        to,
-        line: b'~',
-    })
-}
-
-// Returns the places of a row's hand-off: the place that is inside before it, and another that is inside after it.
-fn hand_off(row: &Row) -> Option<(usize, usize)>
-    requires { IsDrawn row.now }
-    ensures { MatchOption result
-        ((j k : ℕ) → HandsOff row.now j k → ⊥)
-        (λ p. HandsOff row.now p.0 p.1) }
-{
-    let from = place_that(&row.before, Lane::Inside)?;
-    let to = place_that(&row.after, Lane::Inside)?;
-    if from == to {
-        return None;
-    }
-    Some((from, to))
-}
-
-// Returns true if a place waited before and is notified after.
-fn is_notified(before: Lane, after: Lane) -> bool
-    ensures { result ≡ is_notified before after }
-{
-    match (before, after) {
-        (Lane::Waiting(_, _), Lane::Called(_)) => true,
-        _ => false,
-    }
 }
 
 // Returns a column, or an empty one past the last.
@@ -249,32 +189,49 @@ fn column_at(widths: &Widths, i: usize) -> Column {
     columns.get(i).copied().unwrap_or_default()
 }
 
-// Returns how the arrows of a row cross the gap before a column, if one does.
-fn shaft_before(widths: &Widths, i: usize, arrows: &Option<Arrows>) -> Option<Shaft> {
+// Returns how the arrows of a row cross the gap before a column, if one does. They lead from the place that is inside
+// before the row: `-` for a hand-off, `~` for notifications, after which that place is still inside.
+fn shaft_before(widths: &Widths, i: usize, row: &Row) -> Option<Shaft> {
     let columns = widths.columns.as_slice();
     let (left, right) = (columns.get(i.checked_sub(1)?)?.place, columns.get(i)?.place);
-    let Some(Arrows { from, to, line }) = arrows else {
-        return None;
-    };
-    let to = to.as_slice();
-    let mut shaft = Shaft {
-        left: *line,
-        line: *line,
-        right: *line,
-    };
-    if *from <= left && to.iter().any(|head| right <= *head) {
-        if to.contains(&right) {
-            shaft.right = b'>';
-        }
-        return Some(shaft);
+    let from = place_that(&row.before, Lane::Inside)?;
+    let stays = lane_at(&row.after, from as u64) == Lane::Inside;
+    let line = if stays { b'~' } else { b'-' };
+    if from <= left && (right..64).any(|place| is_head(row, from, place)) {
+        let right = if is_head(row, from, right) {
+            b'>'
+        } else {
+            line
+        };
+        return Some(Shaft {
+            left: line,
+            line,
+            right,
+        });
     }
-    if right <= *from && to.iter().any(|head| *head <= left) {
-        if to.contains(&left) {
-            shaft.left = b'<';
-        }
-        return Some(shaft);
+    if right <= from && (0..right).any(|place| is_head(row, from, place)) {
+        let left = if is_head(row, from, left) { b'<' } else { line };
+        return Some(Shaft {
+            left,
+            line,
+            right: line,
+        });
     }
     None
+}
+
+// Returns true if an arrow of a row leads from one place to another: that is inside after the row and isn't the first,
+// or it waits before the row and is notified after it.
+fn is_head(row: &Row, from: usize, place: usize) -> bool
+    ensures { result ≡ is_head (slice_index_or row.now.before place states.Outside)
+        (slice_index_or row.now.after place states.Outside) (place == from) }
+{
+    let before = lane_at(&row.before, place as u64);
+    match (before, lane_at(&row.after, place as u64)) {
+        (_, Lane::Inside) => place != from,
+        (Lane::Waiting(_, _), Lane::Called(_)) => true,
+        _ => false,
+    }
 }
 
 // Writes a text. Returns the room that it leaves in a width.

@@ -2,7 +2,7 @@ use Rattle.std.proofs.Common.{◌≡◌, ◌<◌, length, slice_index_or, rules,
 use Rattle.picture_program.specs.Lanes.{AreLanes, IsAt}
 use Rattle.picture_program.specs.Rows.{history_before}
 use Rattle.picture_program.proofs.Does.{Log}
-use Rattle.picture_program.proofs.Rows.{history_next}
+use Rattle.picture_program.proofs.Steps.{history_next}
 use Rattle.picture_program.proofs.chart.write_block.Goals as goal
 
 pub rows-preserved : goal.rows-preserved

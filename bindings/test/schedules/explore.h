@@ -37,6 +37,9 @@ void x_condition_wait(void *condition, void *lock);
 void x_condition_signal(void *condition);
 /* The monitor is gone: whoever touches this memory afterwards is at fault. */
 void x_gone(void *from, size_t bytes);
+/* Keeps the acts on the monitor, and returns them as a script of ./zaulinte. Only while the monitor is made. */
+void x_keep_script(void);
+const char *x_script(void);
 /* The place that is inside by the steps of the door, or X_NOBODY. */
 uint32_t x_inside(void);
 /* This place touches the monitor's data: it has to be inside, and to see what the visit before wrote. */

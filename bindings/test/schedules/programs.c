@@ -1,7 +1,7 @@
 /* The programs that are explored. Each thread has a place and a script of letters:
  *   e enter; t try to enter, and end if the monitor isn't free; l leave
  *   E enter by a place that threads compete for, and end if it is another thread's: then all its acts are refused too
- *   sC signal condition C; pC signal it and leave; nC notify; bC broadcast
+ *   sC signal condition C; pC signal it and leave; PC the same, without `resumed`; nC notify; bC broadcast
  *   ?C wait on condition C if there is no item; *C wait while there is none; wC wait
  *   + one item more; - one less
  *   ! say that it is inside; @ wait until a thread said so; f free the monitor, again until that isn't refused
@@ -16,9 +16,9 @@ const struct x_program x_programs[] = {
     {"try3", {"0:t l", "1:e l", "2:e l"}, 3, 1, 0},
     {"signal2", {"0:e + s0 l", "1:e ?0 - l"}, 2, 1, 0},
     {"signal2_again", {"0:e + s0 l e + s0 l", "1:e ?0 - l e ?0 - l"}, 2, 1, 0},
-    {"pass2", {"0:e + p0 e + p0", "1:e ?0 - l e ?0 - l"}, 2, 1, 0},
+    {"pass2", {"0:e + p0 e + P0", "1:e ?0 - l e ?0 - l"}, 2, 1, 0},
     {"signal3", {"0:e + s0 l e + s0 l", "1:e ?0 - l", "2:e ?0 - l"}, 3, 1, 0},
-    {"pass3", {"0:e + p0", "1:e + p0", "2:e ?0 - l e ?0 - l"}, 3, 1, 0},
+    {"pass3", {"0:e + p0", "1:e + P0", "2:e ?0 - l e ?0 - l"}, 3, 1, 0},
     {"chain3", {"0:e + s0 l", "1:e ?0 s0 l", "2:e ?0 s0 l"}, 3, 1, 0},
     {"relay3", {"0:e + s0 l", "1:e ?0 p0", "2:e ?0 p0"}, 3, 1, 0},
     {"notify2", {"0:e + n1 l", "1:e *1 - l"}, 2, 1, 1},

@@ -48,10 +48,20 @@ static uint64_t access(struct op op) {
         return was == *from ? 1 : (*from = was, 0); \
     }
 TSAN(8) TSAN(32) TSAN(64)
-/* Accesses to other memory, and marks: nobody touches a monitor that is gone. */
-#define PLAIN(name) void __tsan_##name(void *at) { touch(at); }
-#define BOTH(bytes) PLAIN(read##bytes) PLAIN(write##bytes) PLAIN(unaligned_read##bytes) PLAIN(unaligned_write##bytes)
-BOTH(1) BOTH(2) BOTH(4) BOTH(8) BOTH(16) PLAIN(vptr_read)
+/* Accesses to other memory. A thread stops before such an access too if another's may conflict with it: it is a race,
+ * or the threads do that in turn. In a weak memory these have no messages. */
+static void access_plainly(enum kind kind, void *at) {
+    bool is_in_room = (char *)at >= w->room && (char *)at < w->room + ROOM;
+    struct op op = {.kind = kind, .size = 1, .at = at};
+    touch(at);
+    if (weak || me == X_NOBODY || !is_in_room || !has_conflict(&op)) return;
+    op.kind = TOUCH;
+    stop(op);
+}
+#define PLAIN(kind, name) void __tsan_##name(void *at) { access_plainly(kind, at); }
+#define READ(bytes) PLAIN(LOAD, read##bytes) PLAIN(LOAD, unaligned_read##bytes)
+#define WRITE(bytes) PLAIN(STORE, write##bytes) PLAIN(STORE, unaligned_write##bytes)
+READ(1) READ(2) READ(4) READ(8) READ(16) WRITE(1) WRITE(2) WRITE(4) WRITE(8) WRITE(16) PLAIN(LOAD, vptr_read)
 void __tsan_read_range(void *at, unsigned long bytes) { (void)bytes, touch(at); }
 void __tsan_write_range(void *at, unsigned long bytes) { (void)bytes, touch(at); }
 void *__tsan_memcpy(void *to, const void *from, unsigned long n) { return memcpy(to, from, n); }

@@ -21,7 +21,7 @@ static bool is_shown;
 static const char *replayed, *script;
 static const char *const said[] = {"starts", "loads", "stores", "swaps", "adds", "compares and swaps", "may sleep",
     "makes a step", "sleeps", "wakes one", "locks", "unlocks", "waits and unlocks", "waits", "locks again", "signals",
-    "waits for another", "is done"};
+    "waits for another", "accesses", "is done"};
 
 static const char *name_of(const struct op *op) {
     static char text[64];

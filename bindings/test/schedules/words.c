@@ -6,7 +6,7 @@
 #include "world.h"
 #include <string.h>
 
-enum { USES = 256 };
+enum { USES = 4096 };
 static struct use use[USES];
 static struct { char *from; size_t bytes; uint8_t by; } freed; /* the memory of a monitor that a thread freed */
 bool learned;
@@ -29,7 +29,7 @@ static bool is_freed(const struct use *u) {
     return (char *)u->at >= freed.from && (char *)u->at < freed.from + freed.bytes;
 }
 struct use *use_of(void *at, uint8_t size) {
-    uint32_t i = (uint32_t)((uintptr_t)at >> 2) % USES, tries = 0;
+    uint32_t i = (uint32_t)((uintptr_t)at >> 1) % USES, tries = 0;
     for (; use[i].at && use[i].at != at; i = (i + 1) % USES)
         if (++tries == USES) die("too many words");
     struct use *u = &use[i];

@@ -7,7 +7,7 @@
  * of each place's handle if it knows the latest write. */
 enum { STACK = 16384, ROOM = 16384, WORDS = 26, MESSAGES = 14, DATA = WORDS, HANDLE, VIEWS = HANDLE + X_PLACES };
 enum kind { NEW, LOAD, STORE, SWAP, ADD, CAS, SLEEP, STEP, SLEEPING, WAKE, LOCK, UNLOCK, C_WAIT, C_SLEEPING, RELOCK,
-            C_SIGNAL, AWAIT, DONE };
+            C_SIGNAL, AWAIT, TOUCH, DONE };
 enum order { RELAXED, CONSUME, ACQUIRE, RELEASE, ACQ_REL, SEQ_CST };
 /* The choices of an act are 0, 1 and so on: which thread it wakes, which message it reads. EARLY: it returns early. */
 enum { EARLY = 100 };

@@ -69,8 +69,12 @@ static void begin(uint32_t k) {
     go(k); /* to its beginning */
     go(k); /* to its first act */
 }
+/* Static variables of the monitor under test are part of the world if they are in this section. */
+extern char __start_explored[] __attribute__((weak)), __stop_explored[] __attribute__((weak));
+static size_t size_of_statics(void) { return (size_t)(__stop_explored - __start_explored) / 8 * 8; }
 void make_world(void) {
     memset(w, 0, sizeof *w);
+    memset(__start_explored, 0, size_of_statics());
     w->inside = w->owner = X_NOBODY;
     w->early = early;
     while (w->threads < X_THREADS && program->script[w->threads]) w->threads++;
@@ -81,11 +85,12 @@ void make_world(void) {
     for (uint32_t k = 0; k < w->threads; k++) begin(k);
 }
 
-/* What is used of a world: the threads and what is known, the room, each stack, each word. */
+/* What is used of a world: the threads and what is known, the room, the statics, each stack, each word. */
 static size_t part(uint32_t number, char **from) {
-    uint32_t k = number - 2;
+    uint32_t k = number - 3;
     if (number == 0) return *from = (char *)w, offsetof(struct world, room);
     if (number == 1) return *from = w->room, (w->used + 7) / 8 * 8;
+    if (number == 2) return *from = __start_explored, size_of_statics();
     if (k >= w->threads) {
         *from = (char *)&w->word[k - w->threads];
         return offsetof(struct word, message) + w->messages[k - w->threads] * sizeof(struct message);
@@ -93,7 +98,7 @@ static size_t part(uint32_t number, char **from) {
     *from = w->thread[k].op.kind == DONE ? w->stack[k] + STACK : w->thread[k].sp;
     return (size_t)(w->stack[k] + STACK - *from);
 }
-static uint32_t parts(void) { return 2 + w->threads + (weak ? words : 0); }
+static uint32_t parts(void) { return 3 + w->threads + (weak ? words : 0); }
 static uint64_t mixed(uint64_t h, uint64_t x) {
     h = (h ^ x) * 0x9FB21C651E98DF25u;
     return h ^ h >> 32;

@@ -1,6 +1,6 @@
-/* The acts of the threads. The monitor is compiled with -fsanitize=thread, and this file is the runtime that the compiler
- * then calls: each access to an atomic word is a call. A thread stops before such an access, before a step of the door,
- * and before it sleeps or wakes. The search lets it go on (`make`). */
+/* The acts of the threads. The monitor is compiled with -fsanitize=thread, and this file is the runtime that the
+ * compiler then calls: each access to memory is a call. A thread stops before such an access, before a step of the
+ * door, and before it sleeps or wakes. The search lets it go on (`make`). */
 #include "world.h"
 #include <string.h>
 
@@ -22,7 +22,7 @@ static uint64_t access(struct op op) {
     return do_strongly(&op);
 }
 #define ACCESS(kind, value, expected, order, fails) \
-    access((struct op){kind, (uint8_t)(order), (uint8_t)(fails), sizeof *at, 0, (void *)at, NULL, value, expected, NULL})
+    access((struct op){kind, (uint8_t)(order), (uint8_t)(fails), sizeof *at, 0, (void *)at, NULL, value, expected, 0})
 #define TSAN(bits) \
     typedef uint##bits##_t u##bits; \
     u##bits __tsan_atomic##bits##_load(const volatile u##bits *at, int order) { \
@@ -50,11 +50,14 @@ static uint64_t access(struct op op) {
 TSAN(8) TSAN(32) TSAN(64)
 /* Accesses to other memory. A thread stops before such an access too if another's may conflict with it: it is a race,
  * or the threads do that in turn. In a weak memory these have no messages. */
+static struct { char *from; size_t bytes; } own; /* the test's */
+void x_own(void *from, size_t bytes) { own.from = from, own.bytes = bytes; }
 static void access_plainly(enum kind kind, void *at) {
     bool is_in_room = (char *)at >= w->room && (char *)at < w->room + ROOM;
+    bool is_own = (char *)at >= own.from && (char *)at < own.from + own.bytes;
     struct op op = {.kind = kind, .size = 1, .at = at};
     touch(at);
-    if (weak || me == X_NOBODY || !is_in_room || !has_conflict(&op)) return;
+    if (weak || me == X_NOBODY || !is_in_room || is_own || !has_conflict(&op)) return;
     op.kind = TOUCH;
     stop(op);
 }
@@ -147,7 +150,8 @@ WRAP(notify, IS_PLAIN, (void *place, uint64_t c), (place, c), c, NONE)
 WRAP(broadcast, IS_PLAIN, (void *place, uint64_t c), (place, c), c, NONE)
 /* Inside a step (fine.c): before its atomic instruction. */
 void x_fine_stop(void) {
-    if (me != X_NOBODY) stop((struct op){.kind = STEP, .order = SEQ_CST, .what = "makes the atomic access of its step"});
+    struct op op = {.kind = STEP, .order = SEQ_CST, .what = "makes the atomic access of its step"};
+    if (me != X_NOBODY) stop(op);
 }
 
 static struct thread *sleeper(void *at, enum kind kind, uint32_t n) {
@@ -155,7 +159,7 @@ static struct thread *sleeper(void *at, enum kind kind, uint32_t n) {
         if (w->thread[k].op.kind == kind && w->thread[k].op.at == at && n-- == 0) return &w->thread[k];
     return NULL;
 }
-static bool is_locked(const void *lock) { return *(const uint8_t *)lock != 0; } /* its first byte, which is its holder's */
+static bool is_locked(const void *lock) { return *(const uint8_t *)lock != 0; } /* its first byte */
 bool has(uint32_t thread, uint32_t choice) {
     struct thread *t = &w->thread[thread];
     if (weak && is_access(t->op.kind)) return has_message(t, choice);

@@ -33,8 +33,8 @@ static void leave_out_locks(uint32_t state, uint32_t threads) {
         if (e->is_lock && threads >> e->thread & 1) left_out[state] = true;
     }
 }
-/* Judges the component path[from ..]: returns 1 if it has a fair cycle. A lock that is free again and again isn't denied
- * for ever. So states in which a thread could lock that never does are left out, and the search for cycles begins again. */
+/* Judges the component path[from ..]: returns 1 if it has a fair cycle. A lock that is free again and again isn't
+ * denied for ever. So states in which a thread could lock that never does are left out, and all begins again. */
 static uint32_t judge(uint32_t from, bool *again) {
     struct moves m = {~0u, 0, 0, 0};
     for (uint32_t i = from; i < top; i++) on[path[i]] = IN_COMPONENT;

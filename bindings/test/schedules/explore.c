@@ -4,10 +4,10 @@
  *   explore .. replay=ACTS [script=FILE] PROGRAM
  *   explore names
  *
- * weak: the memory is weak; loose: so is the test by which a thread falls asleep. early: so many sleeps return early; any
- * number without it. fine: stops at the instructions of this file. first: ends at the first fault. show: draws a
- * shortest schedule to a fault, and script writes its acts to FILE. A program is a name, or its threads ("0:e l;1:e l").
- * Status 1: there is a fault. */
+ * weak: the memory is weak; loose: so is the test by which a thread falls asleep. early: so many sleeps return early;
+ * without it any number. fine: stops at the instructions of this file. first: ends at the first fault. show: draws a
+ * shortest schedule to a fault, and script writes its acts to FILE. A program is a name, or its threads, as in
+ * "0:e l;1:e l". Status 1: there is a fault. */
 #define _GNU_SOURCE
 #include "world.h"
 #include <stdio.h>

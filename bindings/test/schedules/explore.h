@@ -20,6 +20,8 @@ const char *x_finished(void);             /* all threads ended: NULL, or what is
 
 /* Memory of the explored world, all zero. It is kept and put back with the world. Only while the monitor is made. */
 void *x_room(size_t bytes, size_t align);
+/* This memory is the test's own: what its code, if it is compiled for ThreadSanitizer too, does there is no act. */
+void x_own(void *from, size_t bytes);
 /* The number of the running thread, from 0. */
 uint32_t x_me(void);
 /* Ends this schedule: it shows a fault. */

@@ -1,6 +1,6 @@
-/* What the weak memory of explore.c shows: small programs whose weak outcome C11 allows, which it has to show (AT FAULT),
- * or forbids, which it must not. A letter is an access: W, w, u write 1 to X, Y, Z; R, r read X, Y; the next letter is its
- * order (s sequentially consistent, a acquire, r release, x relaxed). X2 and so on write 2. S swaps X for 1. */
+/* Tests the weak memory: small programs whose weak outcome C11 allows (_seen), so the explorer has to find it, or
+ * forbids (_never). A letter is an access: W, w write 1 to X, Y; R, r read X, Y; S swaps X for 1. The next letter is its
+ * order (s sequentially consistent, a acquire, r release, x relaxed). W2, w2 write 2. */
 #include "explore.h"
 #include <stdatomic.h>
 #include <string.h>

@@ -39,20 +39,20 @@ uint32_t x_place_of(void *handle) {
     return X_NOBODY;
 }
 const char *x_name_of(void *at) {
-    static const char *const named[4] = {"place 0's word", "place 1's word", "place 2's word", "place 3's word"};
-    static const char *const owned[4] = {"place 0's thread", "place 1's thread", "place 2's thread", "place 3's thread"};
+    static const char *const words[] = {"place 0's word", "place 1's word", "place 2's word", "place 3's word"};
+    static const char *const threads[] = {"place 0's thread", "place 1's thread", "place 2's thread", "place 3's thread"};
     if (at == (void *)&s.m->entrance.word) return "the entrance's word";
     if (at == (void *)&s.m->sleepers) return "the number of sleepers";
     if (at == (void *)&s.m->places) return "the number of places";
     for (uint32_t k = 0; k < places; k++) {
-        if (at == (void *)&s.m->place[k].bell.word) return named[k];
-        if (at == (void *)&s.m->place[k].thread) return owned[k];
+        if (at == (void *)&s.m->place[k].bell.word) return words[k];
+        if (at == (void *)&s.m->place[k].thread) return threads[k];
         if (at == (void *)&s.m->place[k].handle) return "";
     }
     return NULL;
 }
 #ifdef RECORDS
-/* Compares the recording with the steps of the door. If the ring was too short the recording has another beginning. */
+/* Compares the recording with the steps of the door. */
 static const char *compare_recording(void) {
     static char path[64], is[4096];
     const char *owed = x_script();

@@ -1,5 +1,5 @@
-/* The kernel's port itself, with the sleep_while and wake_one of its threads.c. What stands in for kernel.h: a thread has
- * a core of its own. It goes on at any time after another thread made it ready, as if an idle core took it then. */
+/* The kernel's port itself, with the sleep_while and wake_one of its threads.c. This stands in for kernel.h: a thread
+ * has a core of its own. It goes on at any time after another thread made it ready, as if an idle core took it then. */
 #ifndef ZAULINTE_PORT_CODE
 #include "kernel_port.h"
 #else

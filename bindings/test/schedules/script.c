@@ -1,10 +1,11 @@
-/* The acts on the monitor, in the order in which the steps of the door were made, as a script: ./zaulinte play opens it. */
+/* The acts on the monitor as a script, in the order of the steps of the door: ./zaulinte play opens it. */
 #include "world.h"
 #include <stdio.h>
 #include <string.h>
 
 enum { ACTS = 60, LINE = 32 };
-static const char *const steps[][2] = {{"try_enter", "enter"}, {"leave", "leave"}, {"wait", "wait"}, {"signal", "signal"},
+static const char *const steps[][2] = {
+    {"try_enter", "enter"}, {"leave", "leave"}, {"wait", "wait"}, {"signal", "signal"},
     {"signal_leave", "pass"}, {"notify", "notify"}, {"broadcast", "broadcast"}};
 enum { STEPS = sizeof steps / sizeof steps[0] };
 struct acts {

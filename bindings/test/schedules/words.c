@@ -1,8 +1,8 @@
 /* The words that the threads access, as memory that is strong: an access is done at once, and all threads see it.
  *
- * A thread stops before each access that another thread's could follow or precede with another outcome. Which these are
- * is learned: a word that one thread alone accesses, that no thread writes, or that only the thread inside accesses, needs
- * no stop. If an access shows that this was wrong the search begins again. */
+ * A thread stops before each access whose order with another thread's matters. Which these are is learned: a word that
+ * one thread alone accesses, that no thread writes, or that only the thread inside accesses, needs no stop. If an
+ * access shows that this was wrong the search begins again. */
 #include "world.h"
 #include <string.h>
 

@@ -69,7 +69,7 @@ void put_back(const char *kept);
 /* words.c */
 struct use {
     void *at;
-    uint8_t size, users, writers, readers, loose; /* the threads that access it, write, may only read, in a weaker order */
+    uint8_t size, users, writers, readers, loose; /* the threads that access it, write it, read it, in a weaker order */
     bool is_outside;                              /* a thread accesses it that isn't inside */
 };
 struct use *use_of(void *at, uint8_t size);

@@ -1,6 +1,6 @@
 /* Tests the weak memory: small programs whose weak outcome C11 allows (_seen), so the explorer has to find it, or
- * forbids (_never). A letter is an access: W, w write 1 to X, Y; R, r read X, Y; S swaps X for 1. The next letter is its
- * order (s sequentially consistent, a acquire, r release, x relaxed). W2, w2 write 2. */
+ * forbids (_never). A letter is an access: W, w write 1 to X, Y; R, r read X, Y; S swaps X for 1. The next letter is
+ * its order (s sequentially consistent, a acquire, r release, x relaxed). W2, w2 write 2. */
 #include "explore.h"
 #include <stdatomic.h>
 #include <string.h>
@@ -44,8 +44,8 @@ void x_run(uint32_t k, uint32_t place, const char *c) {
         char order = c[value];
         if (order == 's') DO(memory_order_seq_cst);
         else if (order == 'x') DO(memory_order_relaxed);
-        else if (order == 'r') { if (writes) atomic_store_explicit(c0 == 'W' ? &s->x : &s->y, value, memory_order_release); }
-        else if (!writes) s->got[k][n++] = atomic_load_explicit(c0 == 'R' ? &s->x : &s->y, memory_order_acquire);
+        else if (writes) atomic_store_explicit(c0 == 'W' ? &s->x : &s->y, value, memory_order_release);
+        else s->got[k][n++] = atomic_load_explicit(c0 == 'R' ? &s->x : &s->y, memory_order_acquire);
         c += value;
     }
     if (!strncmp(name, "twice", 5)) { /* what the two words are at last */

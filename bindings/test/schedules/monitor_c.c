@@ -40,13 +40,13 @@ uint32_t x_place_of(void *handle) {
 }
 const char *x_name_of(void *at) {
     static const char *const words[] = {"place 0's word", "place 1's word", "place 2's word", "place 3's word"};
-    static const char *const threads[] = {"place 0's thread", "place 1's thread", "place 2's thread", "place 3's thread"};
+    static const char *const claims[] = {"place 0's claim", "place 1's claim", "place 2's claim", "place 3's claim"};
     if (at == (void *)&s.m->entrance.word) return "the entrance's word";
     if (at == (void *)&s.m->sleepers) return "the number of sleepers";
     if (at == (void *)&s.m->places) return "the number of places";
     for (uint32_t k = 0; k < places; k++) {
         if (at == (void *)&s.m->place[k].bell.word) return words[k];
-        if (at == (void *)&s.m->place[k].thread) return threads[k];
+        if (at == (void *)&s.m->place[k].thread) return claims[k];
         if (at == (void *)&s.m->place[k].handle) return "";
     }
     return NULL;

@@ -60,6 +60,7 @@ static void access_plainly(enum kind kind, void *at) {
     if (weak || me == X_NOBODY || !is_in_room || is_own || !has_conflict(&op)) return;
     op.kind = TOUCH;
     stop(op);
+    touch(at);
 }
 #define PLAIN(kind, name) void __tsan_##name(void *at) { access_plainly(kind, at); }
 #define READ(bytes) PLAIN(LOAD, read##bytes) PLAIN(LOAD, unaligned_read##bytes)
@@ -117,6 +118,7 @@ static void begin_step(const char *what, void *handle) {
     uint32_t place = x_place_of(handle);
     touch(handle);
     stop((struct op){.kind = STEP, .order = SEQ_CST, .at = handle, .what = what});
+    touch(handle);
     if (place < X_PLACES) write_data(HANDLE + place, "a data race on the handle of a place");
 }
 static void end_step(uint64_t code, void *handle, int how) {

@@ -19,8 +19,8 @@ extern const struct x_program x_programs[];
 uint32_t early = 255;
 static bool is_shown;
 static const char *replayed, *script;
-static const char *const said[] = {"starts", "loads", "stores", "swaps", "adds", "compares and swaps", "may sleep",
-    "makes a step", "sleeps", "wakes one", "locks", "unlocks", "waits and unlocks", "waits", "locks again", "signals",
+static const char *const said[] = {"starts", "loads", "stores", "swaps", "adds", "compares and swaps", "tests and sleeps on",
+    "makes a step", "sleeps on", "wakes one at", "locks", "unlocks", "waits and unlocks", "waits", "locks again", "signals",
     "waits for another", "accesses", "is done"};
 
 static const char *name_of(const struct op *op) {
@@ -57,15 +57,19 @@ static void end_schedule(void) {
     if (script && (!to || fputs(x_script(), to) < 0 || fclose(to))) die("can't write the script");
     if (to) printf("\t./zaulinte play opens these acts on the monitor: %s\n", script);
 }
+/* How the breadth-first search from state 0 reached each state: by which edge (plus 1), from which state. */
+static uint32_t *by, *from, *queue, queued;
+static void reach_from(uint32_t state) {
+    for (uint32_t j = seen[state].first; j < seen[state].first + seen[state].edges; j++) {
+        uint32_t to = edge[j].to;
+        if (to != NOWHERE && to && !by[to]) by[to] = j + 1, from[to] = state, queue[queued++] = to;
+    }
+}
 /* Shows a shortest schedule to a state. */
 static void show(uint32_t goal) {
-    uint32_t *by = calloc(states, 4), *from = calloc(states, 4), *queue = calloc(states, 4), n = 1;
-    for (uint32_t i = 0; i < n; i++)
-        for (uint32_t j = seen[queue[i]].first; j < seen[queue[i]].first + seen[queue[i]].edges; j++) {
-            uint32_t to = edge[j].to;
-            if (to != NOWHERE && to && !by[to]) by[to] = j + 1, from[to] = queue[i], queue[n++] = to;
-        }
-    n = 0;
+    uint32_t n = 0;
+    by = calloc(states, 4), from = calloc(states, 4), queue = calloc(states, 4), queued = 1;
+    for (uint32_t i = 0; i < queued; i++) reach_from(queue[i]);
     for (uint32_t s = goal; s; s = from[s]) queue[n++] = by[s] - 1;
     begin_schedule();
     while (n-- > 0) show_act(edge[queue[n]].thread, edge[queue[n]].choice);
@@ -127,6 +131,10 @@ static bool explore_named(const char *name) {
     if (!is_known) die(name);
     return is_right;
 }
+static int print_names(void) {
+    for (const struct x_program *p = x_programs; p->name; p++) puts(p->name);
+    return 0;
+}
 /* Takes a choice of the command line; returns false if it is a program. */
 static bool takes(const char *word) {
     const char *is = strchr(word, '=');
@@ -148,12 +156,9 @@ int main(int argc, char **argv) {
     w = mmap((void *)0x200000000000, sizeof *w, PROT_READ | PROT_WRITE,
              MAP_PRIVATE | MAP_ANONYMOUS | MAP_FIXED_NOREPLACE, -1, 0);
     if (w == MAP_FAILED) die("no memory");
-    if (argc == 2 && !strcmp(argv[1], "names")) {
-        for (const struct x_program *p = x_programs; p->name; p++) puts(p->name);
-        return 0;
-    }
     for (int i = 1; i < argc; i++)
         if (!takes(argv[i])) argv[programs++] = argv[i];
+    if (programs == 1 && !strcmp(argv[0], "names")) return print_names();
     make_tables();
     if (!programs) is_right = explore_named(NULL);
     for (int i = 0; i < programs; i++)

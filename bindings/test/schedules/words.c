@@ -63,7 +63,7 @@ bool has_conflict(const struct op *op) {
         if (others != u->users) learned = true;
     }
     if (weak && !u->is_outside && u->users != by) write_data(DATA, "a data race on a word of the place inside");
-    return is_shared(u) || op->kind == SLEEP;
+    return is_shared(u);
 }
 uint64_t memory(const void *at, uint8_t size) {
     uint64_t value = 0;

@@ -184,16 +184,17 @@ static void exchange_views(struct thread *t) {
     if (op->kind == WAKE) join(told_at(op->at, 4), &t->view);
 }
 /* Changes the world as an act does that is no access, and returns true if the thread goes on. */
-static bool act(struct op *op, uint32_t choice) {
+static bool act(struct thread *t, uint32_t choice) {
+    struct op *op = &t->op;
     struct thread *woken;
     switch (op->kind) {
     case WAKE:
         woken = sleeper(op->at, SLEEPING, choice);
         if (woken) go((uint32_t)(woken - w->thread));
         return !w->failed;
-    case LOCK: case RELOCK: *(uint8_t *)op->lock = 1; return true;
-    case UNLOCK: *(uint8_t *)op->lock = 0; return true;
-    case C_WAIT: *(uint8_t *)op->lock = 0, op->kind = C_SLEEPING; return false;
+    case LOCK: case RELOCK: *(uint8_t *)op->lock = 1, t->lock = op->lock; return true;
+    case UNLOCK: *(uint8_t *)op->lock = 0, t->lock = NULL; return true;
+    case C_WAIT: *(uint8_t *)op->lock = 0, t->lock = NULL, op->kind = C_SLEEPING; return false;
     case C_SLEEPING: op->kind = RELOCK; return false;
     case C_SIGNAL:
         woken = sleeper(op->at, C_SLEEPING, choice);
@@ -212,7 +213,7 @@ uint64_t make(uint32_t thread, uint32_t choice) {
     if (weak) exchange_views(t);
     if (accesses && weak) do_weakly(t, choice);
     else if (accesses) t->result = do_strongly(&t->op);
-    else goes_on = act(&t->op, choice);
+    else goes_on = act(t, choice);
     uint64_t result = t->result;
     if (goes_on && !(accesses && t->op.kind == SLEEPING)) go(thread);
     t->result = 0;

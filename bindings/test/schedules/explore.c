@@ -19,8 +19,9 @@ extern const struct x_program x_programs[];
 uint32_t early = 255;
 static bool is_shown;
 static const char *replayed, *script;
-static const char *const said[] = {"starts", "loads", "stores", "swaps", "adds", "compares and swaps", "tests and sleeps on",
-    "makes a step", "sleeps on", "wakes one at", "locks", "unlocks", "waits and unlocks", "waits", "locks again", "signals",
+static const char *const said[] = {
+    "starts", "loads", "stores", "swaps", "adds", "compares and swaps", "tests and sleeps on", "makes a step",
+    "sleeps on", "wakes one at", "locks", "unlocks", "waits and unlocks", "waits", "locks again", "signals",
     "waits for another", "accesses", "is done"};
 
 static const char *name_of(const struct op *op) {

@@ -40,7 +40,8 @@ static void interrupts_off(void) {}
 #define fail(...) x_fail("the kernel fails")
 static uint64_t lock(spin_lock *l) { return x_lock(l), 0; }
 static void unlock(spin_lock *l, uint64_t flags) {
-    for (thread *t; (t = take_first(&ready));) x_tell(&runs[t - own], 1);
+    for (thread *t; (t = take_first(&ready)); t->next = NULL) x_tell(&runs[t - own], 1);
+    ready.last = NULL;
     x_unlock(l), (void)flags;
 }
 #include "threads.c"

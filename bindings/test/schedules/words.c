@@ -1,8 +1,8 @@
 /* The words that the threads access, as memory that is strong: an access is done at once, and all threads see it.
  *
  * A thread stops before each access whose order with another thread's matters. Which these are is learned: a word that
- * one thread alone accesses, that no thread writes, or that only the thread inside accesses, needs no stop. If an
- * access shows that this was wrong the search begins again. */
+ * one thread alone accesses, that no thread writes, or that only the thread inside or the holder of one lock accesses
+ * needs no stop. If an access shows that this was wrong the search begins again. */
 #include "world.h"
 #include <string.h>
 
@@ -16,10 +16,11 @@ void forget_words(void) {
     forget_numbers();
 }
 static bool is_shared(const struct use *u) {
-    return u->is_outside && u->writers && (u->users & (u->users - 1));
+    return u->is_outside && !u->lock && u->writers && (u->users & (u->users - 1));
 }
-static void add_use(struct use *u, uint8_t by, bool writes, bool is_outside) {
+static void add_use(struct use *u, uint8_t by, bool writes, bool is_outside, const void *lock) {
     bool was_shared = is_shared(u);
+    if (u->lock != lock) u->lock = u->users ? NULL : lock;
     u->users |= by;
     if (writes) u->writers |= by;
     u->is_outside |= is_outside;
@@ -35,14 +36,14 @@ struct use *use_of(void *at, uint8_t size) {
     struct use *u = &use[i];
     if (u->at) return u;
     u->at = at, u->size = size;
-    if (is_freed(u)) add_use(u, freed.by, true, true);
+    if (is_freed(u)) add_use(u, freed.by, true, true, NULL);
     return u;
 }
 /* A thread that frees memory writes all words in it. */
 void free_words(void *from, size_t bytes) {
     freed.from = from, freed.bytes = bytes, freed.by |= (uint8_t)(1 << me);
     for (struct use *u = use; u < use + USES; u++)
-        if (u->at && is_freed(u)) add_use(u, freed.by, true, true);
+        if (u->at && is_freed(u)) add_use(u, freed.by, true, true, NULL);
 }
 /* Notes a thread that reads the word, or does so in a weaker order: by these the weak memory forgets messages. */
 static void add_order(struct use *u, const struct op *op, uint8_t by) {
@@ -57,7 +58,7 @@ static void add_order(struct use *u, const struct op *op, uint8_t by) {
 bool has_conflict(const struct op *op) {
     struct use *u = use_of(op->at, op->size);
     uint8_t by = (uint8_t)(1 << me), others = u->users;
-    add_use(u, by, op->kind != LOAD && op->kind != SLEEP, w->owner != me);
+    add_use(u, by, op->kind != LOAD && op->kind != SLEEP, w->owner != me, w->thread[me].lock);
     if (weak && is_shared(u)) {
         add_order(u, op, by);
         if (others != u->users) learned = true;

@@ -34,6 +34,7 @@ struct thread {
     void *sp;
     struct op op;
     uint64_t result;
+    const void *lock; /* the lock that it holds */
     struct view view;
 };
 struct world {
@@ -71,6 +72,7 @@ struct use {
     void *at;
     uint8_t size, users, writers, readers, loose; /* the threads that access it, write it, read it, in a weaker order */
     bool is_outside;                              /* a thread accesses it that isn't inside */
+    const void *lock;                             /* each thread that accesses it holds this lock, if it isn't NULL */
 };
 struct use *use_of(void *at, uint8_t size);
 bool has_conflict(const struct op *op);

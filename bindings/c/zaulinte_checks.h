@@ -63,6 +63,7 @@ static void check_ready(zaulinte_monitor *m, uint32_t place, uint32_t c, uint64_
     FAIL(m, "ready doesn't hold when place %" PRIu32 " signalled %s and place %" PRIu32 " resumes", m->signaller,
          name_of(m, c).text, place);
 }
+/* Relaxed loads: only the thread itself writes its number. */
 static void check_enter(zaulinte_monitor *m, uint32_t place) {
     for (uint32_t k = 0; k < m->places; k++) {
         if (k == place || NOTED(m->place[k].thread) != port_thread()) continue;

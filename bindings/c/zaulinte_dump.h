@@ -1,7 +1,8 @@
 /* zaulinte_dump.h: the part of zaulinte_monitor.c that prints what each place does. NOT PROVED, tested.
  *
  * Each place notes why it is away before the step that sends it away, while it is inside; a place that notifies
- * others notes that of them. So one thread at a time writes the notes. A dump reads them at any time. */
+ * others notes that of them. So one thread at a time writes the notes. A dump reads them at any time. All accesses to
+ * them are relaxed: the door orders those of the places inside, and a dump may mix moments. */
 enum { WAITS = 1, HAS_SIGNALLED, WAS_NOTIFIED };
 #define NOTED(field) atomic_load_explicit(&(field), memory_order_relaxed)
 #define NOTE(field, value) atomic_store_explicit(&(field), (value), memory_order_relaxed)

@@ -37,12 +37,14 @@ static uint64_t claim(zaulinte_monitor *m, uint32_t place) {
     return is_claimed ? 0 : ZAULINTE_NOT_OUTSIDE;
 }
 static uint64_t unclaim(zaulinte_monitor *m, uint32_t place, uint64_t code) {
+    /* release: the next claim, and `free`, acquire all that this thread did with the place */
     atomic_store_explicit(&m->place[place].thread, 0, memory_order_release);
     return code;
 }
 /* Returns why the calling thread can't act by the place, or 0: it has claimed it, so the place is inside. */
 static uint64_t may_act(zaulinte_monitor *m, uint32_t place) {
     if (place >= 64) return ZAULINTE_NO_PLACE;
+    /* relaxed: it is the thread's own number only if the thread's own claim wrote it last */
     uintptr_t thread = atomic_load_explicit(&m->place[place].thread, memory_order_relaxed);
     if (thread != port_thread()) return thread ? ZAULINTE_NOT_OUTSIDE : ZAULINTE_NOT_INSIDE;
     return 0;
@@ -51,6 +53,7 @@ static uint64_t may_act(zaulinte_monitor *m, uint32_t place) {
  * wakes one entering thread. */
 static void wake(zaulinte_monitor *m, uint64_t next, uint32_t how) {
     zaulinte_bell *b = next < NOBODY ? &m->place[next].bell : &m->entrance;
+    /* sequentially consistent, as the step before it: docs/WAKING.md */
     if (next == NOBODY && atomic_load(&b->word) != ASLEEP) return;
     if (atomic_exchange(&b->word, next < NOBODY ? how : AWAKE) == ASLEEP) port_wake_one(b);
 }
@@ -91,6 +94,7 @@ APART void sleeps(zaulinte_monitor *m, uint32_t place) {
     bool is_in = false;
     atomic_fetch_add(&m->sleepers, 1);
     while (!is_in) {
+        /* sequentially consistent, as the attempt after it: docs/WAKING.md */
         atomic_exchange(&m->entrance.word, ASLEEP);
         is_in = enters(m, place);
         if (!is_in) port_sleep_while(&m->entrance, ASLEEP), is_in = tries(m, place);
@@ -122,6 +126,7 @@ static void resumes(zaulinte_monitor *m, uint32_t place, uint64_t next) {
         port_sleep_while(mine, ASLEEP);
     note_here(m, place);
     visit_begins(m);
+    /* relaxed: the ring was acquired, and the next one comes after a later step of this place, which releases this */
     m->place[place].backs_off = atomic_exchange_explicit(&mine->word, AWAKE, memory_order_relaxed) == LEFT;
 }
 uint64_t zaulinte_leave(zaulinte_monitor *m, uint32_t place) {

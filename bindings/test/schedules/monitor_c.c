@@ -1,0 +1,160 @@
+/* The programs' letters (programs.c) as calls of the running monitor for C. With -DRECORDS the monitor records. */
+#include "explore.h"
+#include "zaulinte_monitor.h"
+#include <unistd.h>
+
+static struct shared {
+    zaulinte_monitor *m;
+    uint32_t *items, *said, *claims;
+} s;
+static uint32_t places;
+static size_t size_of_monitor(void) { return offsetof(zaulinte_monitor, place) + places * sizeof(zaulinte_place); }
+#define CHECK(call, code) ((call) == (code) ? (void)0 : x_fail("the call " #call " doesn't return " #code))
+
+#ifdef ZAULINTE_CHECKS
+static bool has_item(void *items, uint32_t condition, uint64_t priority, const zaulinte_waiting *waiting) {
+    (void)priority;
+    return *(uint32_t *)items > 0 && waiting->count[condition] < places;
+}
+static bool is_few(void *items) { return *(uint32_t *)items <= 2 * places; }
+#endif
+void x_make(const struct x_program *p) {
+    s.items = x_room(sizeof(uint32_t), 4), s.said = x_room(sizeof(uint32_t), 4);
+    s.claims = x_room(X_PLACES * sizeof(uint32_t), 8);
+    places = p->places;
+    s.m = x_room(size_of_monitor(), 64);
+    if (zaulinte_make(s.m, p->places, p->hoare + p->mesa, p->mesa)) __builtin_trap();
+#ifdef ZAULINTE_CHECKS
+    zaulinte_check(s.m, is_few, NULL, has_item, s.items);
+#endif
+#ifdef RECORDS
+    size_t size = zaulinte_recording_size(RECORDS);
+    x_keep_script();
+    if (zaulinte_record(s.m, x_room(size, 16), size)) __builtin_trap();
+#endif
+}
+uint32_t x_place_of(void *handle) {
+    for (uint32_t k = 0; k < places; k++)
+        if (handle == &s.m->place[k].handle) return k;
+    return X_NOBODY;
+}
+const char *x_name_of(void *at) {
+    static const char *const words[] = {"place 0's word", "place 1's word", "place 2's word", "place 3's word"};
+    static const char *const claims[] = {"place 0's claim", "place 1's claim", "place 2's claim", "place 3's claim"};
+    if (at == (void *)&s.m->entrance.word) return "the entrance's word";
+    if (at == (void *)&s.m->sleepers) return "the number of sleepers";
+    if (at == (void *)&s.m->places) return "the number of places";
+    for (uint32_t k = 0; k < places; k++) {
+        if (at == (void *)&s.m->place[k].bell.word) return words[k];
+        if (at == (void *)&s.m->place[k].thread) return claims[k];
+        if (at == (void *)&s.m->place[k].handle) return "";
+    }
+    return NULL;
+}
+#ifdef RECORDS
+/* Compares the recording with the steps of the door. */
+static const char *compare_recording(void) {
+    static char path[64], is[4096];
+    const char *owed = x_script();
+    if (!path[0]) snprintf(path, sizeof path, "/dev/shm/schedules_%d", (int)getpid());
+    if (!zaulinte_save(s.m, path)) return "the recording isn't saved";
+    FILE *from = fopen(path, "r");
+    is[fread(is, 1, sizeof is - 1, from)] = 0;
+    fclose(from);
+    remove(path);
+    return strcmp(is, owed) ? "the recording differs from the acts" : NULL;
+}
+#endif
+const char *x_finished(void) {
+    if (x_inside() != X_NOBODY) return "all threads ended, and a place is inside";
+    if (s.m->sleepers) return "all threads ended, and one is counted as a sleeper";
+    for (uint32_t k = 0; k < places; k++) {
+        if (s.m->place[k].thread) return "all threads ended, and a place is claimed";
+        if (s.m->place[k].bell.word == 1) return "all threads ended, and a place's word says that one sleeps";
+    }
+#ifdef RECORDS
+    return s.m->places ? compare_recording() : NULL;
+#endif
+    return NULL;
+}
+
+/* Each of these makes the call of a letter, and returns true if the place is inside then. */
+static bool enters(uint32_t place, char letter) {
+    uint64_t code = letter == 't' ? zaulinte_try_enter(s.m, place) : zaulinte_enter(s.m, place);
+    if (!code) {
+        if (letter == 'E' && s.claims[place]++) x_fail("two threads have one place");
+        return true;
+    }
+    if (letter == 't' && code == ZAULINTE_NOT_FREE) return false;
+    if (letter != 'E' || code != ZAULINTE_NOT_OUTSIDE) x_fail("the place isn't let in");
+    code = zaulinte_leave(s.m, place);
+    if (code != ZAULINTE_NOT_OUTSIDE && code != ZAULINTE_NOT_INSIDE) x_fail("another thread's place leaves");
+    return false;
+}
+static bool leaves(uint32_t place, char letter, uint32_t condition) {
+    bool resumed = false, *to = letter == 'p' ? &resumed : NULL;
+    bool waits = letter == 'p' && zaulinte_queue(s.m, place, condition) == 1;
+    s.claims[place] = 0;
+    if (letter == 'l') CHECK(zaulinte_leave(s.m, place), 0);
+    else CHECK(zaulinte_signal_leave(s.m, place, condition, to), 0);
+    if (resumed != waits) x_fail("signal_leave tells the wrong number");
+    return false;
+}
+static bool waits(uint32_t place, char letter, uint32_t condition) {
+    while (letter == 'w' || !*s.items) {
+        CHECK(zaulinte_wait(s.m, place, condition, 0), 0);
+        x_touch(place);
+        if (letter != '*') break;
+    }
+    if (letter == '?' && !*s.items) x_fail("a place resumes without an item");
+    return true;
+}
+static bool signals(uint32_t place, uint32_t condition) {
+    bool resumed, waits = zaulinte_queue(s.m, place, condition) == 1;
+    CHECK(zaulinte_signal(s.m, place, condition, &resumed), 0);
+    if (resumed != waits) x_fail("signal tells the wrong number");
+    return true;
+}
+static bool notifies(uint32_t place, char letter, uint32_t condition) {
+    uint64_t count, called;
+    CHECK(zaulinte_count(s.m, place, condition, &count), 0);
+    if (letter == 'n') CHECK(zaulinte_notify(s.m, place, condition, &called), 0);
+    else CHECK(zaulinte_broadcast(s.m, place, condition, &called), 0);
+    if (called != (letter == 'n' && count ? 1 : count)) x_fail("notify tells the wrong number");
+    return true;
+}
+static void frees(void) {
+    uint64_t code;
+    while ((code = zaulinte_free(s.m)) == ZAULINTE_IN_USE) {}
+    if (code) x_fail("free returns neither 0 nor 112");
+    if (x_inside() != X_NOBODY) x_fail("a monitor is freed while a place is inside");
+    CHECK(zaulinte_free(s.m), ZAULINTE_NO_BOOK);
+    x_gone(s.m, size_of_monitor());
+}
+/* Acts on the data while the place is inside, or returns false. */
+static bool acts(char letter) {
+    switch (letter) {
+    case '+': ++*s.items; return true;
+    case '-': return (*s.items)-- || (x_fail("there is no item"), false);
+    case '!': x_tell(s.said, 1); return true;
+    default: return false;
+    }
+}
+void x_run(uint32_t thread, uint32_t place, const char *script) {
+    bool is_inside = false;
+    (void)thread;
+    for (const char *c = script; *c; c++) {
+        uint32_t condition = (uint32_t)(c[1] - '0');
+        if (*c == ' ' || (*c >= '0' && *c <= '9')) continue;
+        if (*c == '@') x_await(s.said, 1);
+        else if (*c == 'f') frees();
+        else if (strchr("etE", *c)) is_inside = enters(place, *c);
+        else if (strchr("lpP", *c)) is_inside = leaves(place, *c, condition);
+        else if (strchr("?*w", *c)) is_inside = waits(place, *c, condition);
+        else if (*c == 's') is_inside = signals(place, condition);
+        else if (strchr("nb", *c)) is_inside = notifies(place, *c, condition);
+        else if (!acts(*c)) x_fail("a letter that isn't known");
+        if (is_inside) x_touch(place);
+        else if (strchr("tE", *c)) return; /* it wasn't let in: its script ends */
+    }
+}

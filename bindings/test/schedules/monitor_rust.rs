@@ -95,7 +95,7 @@ fn agrees(inside: &Inside<'_>, is_err: bool) {
 fn act<'a>(mut inside: Inside<'a>, number: u32, letter: Option<u8>) -> Option<Inside<'a>> {
     match letter {
         Some(b'l') => return None,
-        Some(b'p') => return pass(inside),
+        Some(b'p' | b'P') => return pass(inside),
         Some(b'x') => return panic_inside(inside),
         Some(b'F') => {
             core::mem::forget(inside);

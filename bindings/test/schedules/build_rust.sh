@@ -17,7 +17,7 @@ crate() { # NAME KIND FILE FLAGS..
         --crate-type "$kind" --crate-name "$name" "$@" "$file"
 }
 crate fake_std rlib "$here/fake_std.rs"
-crate zaulinte rlib "$sources/lib.rs" --extern std="$objects/libfake_std.rlib" "$@"
+crate zaulinte rlib "$sources/lib.rs" --cap-lints allow --extern std="$objects/libfake_std.rlib" "$@"
 crate monitor staticlib "$here/monitor_rust.rs" --extern zaulinte "$@"
 clang -no-pie @"$here/steps.flags" "$EXPLORE_O" "$objects/libmonitor.a" \
     "$here/../../lib/x86_64-linux/libzaulinte.a" -o "$out"

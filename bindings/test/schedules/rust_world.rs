@@ -11,6 +11,8 @@ use zaulinte::Port;
 const THREADS: usize = 4;
 /// A cache line, which each word that threads sleep on, and each note, has for itself.
 const LINE: usize = 64;
+/// An `Arc` begins with its two counts.
+const OWNERS: usize = 16;
 /// The number of no place.
 pub const NOBODY: u32 = 64;
 
@@ -179,22 +181,29 @@ pub extern "C" fn x_place_of(handle: usize) -> u32 {
     }
 }
 
+const PLACES: [&CStr; THREADS] = [c"of place 0", c"of place 1", c"of place 2", c"of place 3"];
 const WORDS: [&CStr; THREADS] = [c"place 0's word", c"place 1's word", c"place 2's word", c"place 3's word"];
 const NOTES: [&CStr; THREADS] = [c"place 0's note", c"place 1's note", c"place 2's note", c"place 3's note"];
 
-/// Names a word by its cache line: that of a place's word, and of the entrance's, has the mark of its port.
 #[no_mangle]
 pub extern "C" fn x_name_of(at: usize) -> *const c_char {
-    let Some(&(from, _)) = made().lines.iter().find(|(from, size)| (*from..from + size).contains(&at)) else {
-        return null();
-    };
+    let place = x_place_of(at);
+    if place != NOBODY {
+        return PLACES[place as usize].as_ptr();
+    }
+    let is_in = |&&(from, size): &&(usize, usize)| (from..from + size).contains(&at);
+    made().lines.iter().find(is_in).map_or(null(), |&(from, _)| word_in(from, at).as_ptr())
+}
+
+/// Names a word by its cache line: that of a place's word, and of the entrance's, has the mark of its port.
+fn word_in(piece: usize, at: usize) -> &'static CStr {
     let line = at / LINE * LINE;
     let marks = (line..line + LINE).step_by(8).map(|word| unsafe { (word as *const u64).read() }.wrapping_sub(MARK));
-    let name = match marks.min() {
+    match marks.min() {
         Some(number) if number == made().many as u64 => c"the entrance's word",
         Some(number) if number < THREADS as u64 => WORDS[number as usize],
-        _ if from == made().lines[1].0 => NOTES[(line - from) / LINE],
-        _ => return null(),
-    };
-    name.as_ptr()
+        _ if piece == made().lines[1].0 => NOTES[(line - piece) / LINE],
+        _ if at < piece + OWNERS => c"the number of owners",
+        _ => c"a word of the monitor",
+    }
 }

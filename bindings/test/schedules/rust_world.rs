@@ -18,6 +18,7 @@ pub const NOBODY: u32 = 64;
 
 extern "C" {
     fn x_room(bytes: usize, align: usize) -> *mut c_void;
+    fn x_own(from: *mut c_void, bytes: usize);
     fn x_gone(from: *mut c_void, bytes: usize);
     fn x_fail(what: *const c_char) -> !;
     pub fn x_me() -> u32;
@@ -65,8 +66,9 @@ pub fn kept() -> &'static mut Kept {
 }
 
 pub fn begin() {
-    *made() =
-        Made { kept: unsafe { x_room(size_of::<Kept>(), 8) }.cast(), places: null_mut(), many: 0, lines: [(0, 0); 3] };
+    let kept = unsafe { x_room(size_of::<Kept>(), 8) };
+    unsafe { x_own(kept, size_of::<Kept>()) };
+    *made() = Made { kept: kept.cast(), places: null_mut(), many: 0, lines: [(0, 0); 3] };
 }
 
 pub fn keep(places: Vec<Place>) {

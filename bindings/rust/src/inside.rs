@@ -216,7 +216,7 @@ struct Leaving<'b, 'a, T, C: Condition, M: Condition, P: Port> {
 impl<T, C: Condition, M: Condition, P: Port> Drop for Leaving<'_, '_, T, C, M, P> {
     fn drop(&mut self) {
         if self.is_at_fault || (P::panicking() && !self.inside.panicked) {
-            self.inside.place.inner.poisoned.store(true, Relaxed);
+            self.inside.place.inner.poisoned.store(true, Relaxed); // the step that follows releases it
         }
         self.inside.place.leave();
     }

@@ -58,7 +58,7 @@ impl<T, C, M, P> Inner<T, C, M, P> {
     }
 
     pub(crate) fn is_poisoned(&self) -> bool {
-        self.poisoned.load(Relaxed)
+        self.poisoned.load(Relaxed) // inside it is ordered by the steps of the door, as the data are
     }
 
     /// Returns `answer`, in an error if a thread panicked inside.
@@ -154,7 +154,7 @@ impl<T: Send, C: Condition, M: Condition, P: Port> Monitor<T, C, M, P> {
 
     /// Forgets that a thread panicked inside.
     pub fn clear_poison(&self) {
-        self.0.poisoned.store(false, Relaxed);
+        self.0.poisoned.store(false, Relaxed); // no data depend on it
     }
 
     /// Records the acts of all places from now on, and keeps the last of them, so many. `places` are all places of the

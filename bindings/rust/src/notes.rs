@@ -1,7 +1,8 @@
 //! What each place does, as it notes it for `Debug` of its monitor.
 //!
 //! A place notes what it does before the step that sends it away, while it is inside; a place that notifies others notes
-//! that of them. So one thread at a time writes a note. Any thread may read it at any time.
+//! that of them. So one thread at a time writes a note. Any thread may read it at any time. All accesses are relaxed: a
+//! place inside sees the notes before it by the steps of the door, and what others read may be of different moments.
 use crate::conditions::Condition;
 use crate::refused::room_for;
 use crate::Refused;

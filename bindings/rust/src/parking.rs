@@ -54,6 +54,7 @@ impl<P: Port> Bell<P> {
 
     /// Returns true if the monitor is owed to the place.
     fn is_rung(&self) -> bool {
+        // a hint, for which any order would do: the swap in `go_away` acquires the ring
         matches!(self.word.load(Acquire), RUNG | LEFT)
     }
 
@@ -148,6 +149,7 @@ impl<P: Port> Parking<P> {
     #[inline]
     pub(crate) fn wake(&self, next: Next, departure: Departure) {
         let Some(place) = next else {
+            // SeqCst, since the step comes before it; in `enter_asleep` the attempt comes after the write
             if self.entrance.word.load(SeqCst) == ASLEEP {
                 self.wake_entering();
             }
@@ -155,6 +157,7 @@ impl<P: Port> Parking<P> {
         };
         let bell = &self.bells[place];
         let how = if departure == Departure::Leaves { LEFT } else { RUNG };
+        // at least Release: the place that sees the ring has to see the step
         if bell.word.swap(how, SeqCst) == ASLEEP {
             bell.wake_one();
         }
@@ -178,6 +181,7 @@ impl<P: Port> Parking<P> {
     fn enter_asleep(&self, seat: &mut Seat, patience: &mut Patience) {
         self.sleepers.fetch_add(1, SeqCst);
         loop {
+            // SeqCst, since the attempt comes after it; in `wake` the read comes after the step
             self.entrance.word.swap(ASLEEP, SeqCst);
             if seat.try_enter() {
                 break;
@@ -201,6 +205,7 @@ impl<P: Port> Parking<P> {
         if !bell.is_rung() && !patience.polls(|| bell.polls(P::POLLS)) {
             bell.sleep_until_rung();
         }
+        // at least Acquire: what is seen of the door afterwards is no older than the ring
         let has_left = bell.word.swap(AWAKE, SeqCst) == LEFT;
         assert!(seat.try_return(), "place {} was woken and the monitor isn't owed to it", seat.number());
         core::mem::forget(ends);

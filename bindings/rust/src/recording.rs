@@ -203,6 +203,7 @@ pub(crate) struct Recording {
     ring: Vec<[AtomicU64; 2]>,
 }
 
+// Relaxed, as all words of a recording are: the steps of the door order its writers, `version` its readers.
 fn load<const N: usize>(words: &[AtomicU64; N]) -> [u64; N] {
     core::array::from_fn(|i| words[i].load(Relaxed))
 }
@@ -230,7 +231,7 @@ impl Recording {
     pub(crate) fn note(&self, act: Act) {
         let version = self.version.load(Relaxed);
         self.version.store(version + 1, Relaxed);
-        fence(Release);
+        fence(Release); // a reader that sees what is noted below sees that the version is odd, at its second read
         let (mine, entered) = (1 << act.place, self.entered.load(Relaxed));
         if entered & mine == 0 {
             self.add(Act::on(Kind::Enter, act.place, 0));
@@ -238,7 +239,7 @@ impl Recording {
         self.add(act);
         let leaves = matches!(act.kind, Kind::Leave | Kind::Pass);
         self.entered.store(if leaves { entered & !mine } else { entered | mine }, Relaxed);
-        self.version.store(version + 2, Release);
+        self.version.store(version + 2, Release); // a reader that sees this version sees all that was noted before
     }
 
     fn add(&self, act: Act) {
@@ -273,7 +274,7 @@ impl Recording {
         let (version, entered) = (self.version.load(Acquire), self.entered.load(Relaxed));
         let (end, size, state) = (self.end.load(Relaxed), self.ring.len() as u64, self.state());
         let words: Vec<_> = (end.saturating_sub(size)..end).map(|i| load(&self.ring[(i % size) as usize])).collect();
-        fence(Acquire);
+        fence(Acquire); // the version is read once more after all that was read above
         let is_whole = version % 2 == 0 && self.version.load(Relaxed) == version;
         is_whole.then(|| (state.acts().into_iter().chain(words.into_iter().map(Act::of)).collect(), entered))
     }
@@ -286,7 +287,7 @@ pub(crate) struct Recorder(AtomicPtr<Recording>);
 impl Recorder {
     #[inline]
     pub(crate) fn get(&self) -> Option<&Recording> {
-        // SAFETY: a pointer that isn't null is of a box that lives as long as `self`
+        // SAFETY: a pointer that isn't null is of a box that lives as long as `self`; it is acquired as `set` released it
         unsafe { self.0.load(Acquire).as_ref() }
     }
 
@@ -297,6 +298,7 @@ impl Recorder {
     #[track_caller]
     pub(crate) fn set(&self, recording: Recording) {
         let new = Box::into_raw(Box::new(recording));
+        // if it fails, what it read isn't used
         let is_set = self.0.compare_exchange(ptr::null_mut(), new, Release, Relaxed).is_ok();
         if !is_set {
             // SAFETY: nobody else has the pointer

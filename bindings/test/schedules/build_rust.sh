@@ -1,19 +1,23 @@
 #!/bin/sh
-# build_rust.sh OUT [FOLDER OF THE CRATE'S SOURCES] [FLAGS..]
+# Builds the explorer of the running monitor for Rust: build_rust.sh OUT [SOURCES [FLAGS OF RUSTC..]]
+# SOURCES is the folder of the crate's sources, by default the crate's own. EXPLORE_O is the explorer, compiled. POLLS=N
+# lets threads poll N times, by default 0. `--cfg feature="std"` takes std's port, over fake_std.rs; `--cfg record`
+# records all acts. Needs a nightly rustc, else ends with 77.
 set -eu
-out=$1 sources=${2:-}; shift; [ $# -eq 0 ] || shift
 here=$(cd -- "$(dirname -- "$0")" && pwd)
-[ -n "$sources" ] || sources=$here/../../rust/src
-d=$(mktemp -d); trap 'rm -rf "$d"' EXIT
-flags="--edition 2021 -O -Zsanitizer=thread -Zexternal-clangrt -Cunsafe-allow-abi-mismatch=sanitizer -Cpanic=abort -Crelocation-model=static"
-rustc +nightly $flags "$@" --crate-type rlib --crate-name zaulinte "$sources/lib.rs" -o "$d/libzaulinte.rlib"
-rustc +nightly $flags "$@" --crate-type rlib --crate-name fake_std "$here/fake_std.rs" -o "$d/libfake_std.rlib"
-rustc +nightly $flags "$@" --crate-type staticlib --extern zaulinte="$d/libzaulinte.rlib" --extern std="$d/libfake_std.rlib" "$here/monitor_rust.rs" -o "$d/libmonitor.a"
-steps= ; for s in try_enter try_return leave wait signal signal_leave notify broadcast give_back; do steps="$steps -Wl,--wrap=zaulinte_door_$s"; done
-[ -n "${EXPLORE_O:-}" ] && cp "$EXPLORE_O" "$d/explore.o" || clang -std=gnu11 -O2 -g -fno-pie -Wall -Wextra -I"$here" -c "$here/explore.c" -o "$d/explore.o"
-clang -std=gnu11 -O1 -fno-pie -I"$here" -c "$here/programs.c" -o "$d/programs.o"
-clang -std=gnu11 -O1 -fno-pie -Wall -Wextra -I"$here" -c "$here/fine.c" -o "$d/fine.o"
-echo 'void rust_eh_personality(void) {}' > "$d/p.c"; clang -fno-pie -c "$d/p.c" -o "$d/p.o"
-clang -no-pie $steps "$d"/*.o "$d/libmonitor.a" "$here/../../lib/x86_64-linux/libzaulinte.a" -o "$out"
-# the atomic instructions of the archive's functions of the door: address and length
-objdump -d --prefix-addresses --show-raw-insn "$out" | awk '/<(zaulinte_door_|door_place|std_alloc::arc)/ && /(lock |xchg .*\(|mfence)/ { n = 0; for (i = 3; $i ~ /^[0-9a-f][0-9a-f]$/; i++) n++; print $1, n }' > "$out.sites"
+out=$1 sources=${2:-$here/../../rust/src}
+[ $# -lt 2 ] && shift || shift 2
+rustc +nightly --version > /dev/null 2>&1 || { echo 'build_rust.sh: needs a nightly rustc' >&2; exit 77; }
+objects=$(mktemp -d); trap 'rm -rf "$objects"' EXIT
+
+crate() { # NAME KIND FILE FLAGS..
+    name=$1 kind=$2 file=$3; shift 3
+    rustc +nightly --edition 2021 -O -Zsanitizer=thread -Zexternal-clangrt -Cunsafe-allow-abi-mismatch=sanitizer \
+        -Cpanic=abort -Crelocation-model=static -L "$objects" --out-dir "$objects" \
+        --crate-type "$kind" --crate-name "$name" "$@" "$file"
+}
+crate fake_std rlib "$here/fake_std.rs"
+crate zaulinte rlib "$sources/lib.rs" --cap-lints allow --extern std="$objects/libfake_std.rlib" "$@"
+crate monitor staticlib "$here/monitor_rust.rs" --extern zaulinte "$@"
+clang -no-pie @"$here/steps.flags" "$EXPLORE_O" "$objects/libmonitor.a" \
+    "$here/../../lib/x86_64-linux/libzaulinte.a" -o "$out"

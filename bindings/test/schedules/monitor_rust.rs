@@ -1,18 +1,26 @@
-//! The programs' letters as calls of the running monitor for Rust. Places that threads compete for, and `free`, can't be
-//! written in Rust.
+//! The programs' letters (programs.c) as calls of the running monitor for Rust. A place that two threads compete for,
+//! and `free`, can't be written in Rust. Besides: x the thread panics inside; F it forgets its guard; d it drops its
+//! place, and ends.
 #![no_std]
 extern crate alloc;
-use alloc::vec::Vec;
-use core::alloc::{GlobalAlloc, Layout};
-use core::ffi::{c_char, c_void, CStr};
-use core::mem::size_of;
-use core::ptr::{addr_of_mut, null};
-#[cfg(not(std_port))]
-use core::sync::atomic::AtomicU32;
-use zaulinte::{conditions, Checks, Monitor, Port};
+mod rust_world;
+
+use core::ffi::{c_char, CStr};
+use core::ptr::null;
+use rust_world::{fail, kept, x_inside, x_touch, Explored, NOBODY};
+use zaulinte::{conditions, Checks, LockResult, Monitor};
 
 conditions! { enum Hoare { Item } }
 conditions! { enum Mesa { Item } }
+
+struct Data {
+    items: u32,
+    /// A thread panicked inside.
+    is_poisoned: bool,
+}
+
+type Place = zaulinte::Place<Data, Hoare, Mesa, Explored>;
+type Inside<'a> = zaulinte::Inside<'a, Data, Hoare, Mesa, Explored>;
 
 #[repr(C)]
 pub struct Program {
@@ -23,168 +31,143 @@ pub struct Program {
     mesa: u32,
 }
 
-extern "C" {
-    fn x_room(bytes: usize, align: usize) -> *mut c_void;
-    fn x_fail(what: *const c_char) -> !;
-    #[cfg(not(std_port))]
-    fn x_sleep_while(word: *mut c_void, is: u32);
-    #[cfg(not(std_port))]
-    fn x_wake_one(word: *mut c_void);
-    fn x_touch(place: u32);
-    fn x_inside() -> u32;
-}
-
-struct Room;
-unsafe impl GlobalAlloc for Room {
-    unsafe fn alloc(&self, layout: Layout) -> *mut u8 {
-        x_room(layout.size(), layout.align()).cast()
-    }
-    unsafe fn dealloc(&self, _: *mut u8, _: Layout) {}
-}
-#[global_allocator]
-static ROOM: Room = Room;
-
-#[panic_handler]
-fn panics(_: &core::panic::PanicInfo<'_>) -> ! {
-    fail(c"a thread panics")
-}
-fn fail(what: &CStr) -> ! {
-    unsafe { x_fail(what.as_ptr()) }
-}
-
-#[cfg(std_port)]
-#[path = "../../rust/src/std_port.rs"]
-mod std_port;
-#[cfg(std_port)]
-use std_port::StdPort as Explored;
-
-#[cfg(not(std_port))]
-#[derive(Default)]
-struct Explored;
-#[cfg(not(std_port))]
-unsafe impl Port for Explored {
-    const POLLS: u32 = POLLS;
-    fn sleep_while(&self, word: &AtomicU32, is: u32) {
-        unsafe { x_sleep_while(word.as_ptr().cast(), is) }
-    }
-    fn wake_one(&self, word: &AtomicU32) {
-        unsafe { x_wake_one(word.as_ptr().cast()) }
-    }
-}
-#[cfg(not(std_port))]
-const POLLS: u32 = if cfg!(polls) { 1 } else { 0 };
-
-type Place = zaulinte::Place<u32, Hoare, Mesa, Explored>;
-static mut PLACES: (*mut Place, usize) = (core::ptr::null_mut(), 0);
-
 #[no_mangle]
 pub extern "C" fn x_make(program: &Program) {
-    let made = Monitor::<u32, Hoare, Mesa, _>::with_port(0, program.places as usize, Checks::default(), Explored::default);
-    let Ok((monitor, places)) = made else { panic!() };
-    core::mem::forget(monitor);
-    let places: &'static mut [Place] = Vec::leak(places);
-    unsafe { addr_of_mut!(PLACES).write((places.as_mut_ptr(), places.len())) };
+    rust_world::begin();
+    let mut ports = (0..).map(Explored::of);
+    let data = Data { items: 0, is_poisoned: false };
+    let made = Monitor::with_port(data, program.places as usize, Checks::default(), || ports.next().unwrap());
+    let Ok((monitor, mut places)) = made else { panic!() };
+    if cfg!(record) {
+        monitor.record(&mut places, 4).unwrap();
+    }
+    drop(monitor); // its places keep what they share
+    rust_world::keep(places);
 }
-#[no_mangle]
-pub extern "C" fn x_place_of(handle: usize) -> u32 {
-    let (first, many) = unsafe { addr_of_mut!(PLACES).read() };
-    let place = handle.wrapping_sub(first as usize) / size_of::<Place>();
-    if place < many { place as u32 } else { 64 }
-}
-#[no_mangle]
-pub extern "C" fn x_name_of(_: usize) -> *const c_char {
-    null()
-}
+
 #[no_mangle]
 pub extern "C" fn x_finished() -> *const c_char {
-    if unsafe { x_inside() } == 64 { null() } else { c"all threads ended, and a place is inside".as_ptr() }
+    if unsafe { x_inside() } != NOBODY {
+        return c"all threads ended, and a place is inside".as_ptr();
+    }
+    if rust_world::is_memory_lost() {
+        c"all places were dropped, and memory is lost".as_ptr()
+    } else {
+        null()
+    }
 }
+
 #[no_mangle]
 pub extern "C" fn x_run(_: u32, number: u32, script: *const c_char) {
-    let touch = || unsafe { x_touch(number) };
-    let place = unsafe { &mut *addr_of_mut!(PLACES).read().0.add(number as usize) };
-    let mut letters = unsafe { CStr::from_ptr(script) }.to_bytes();
-    while let Some((letter, rest)) = letters.split_first() {
-        letters = rest;
-        let entered = match letter {
-            b'e' => place.enter(),
+    let place = rust_world::place(number);
+    let letters = unsafe { CStr::from_ptr(script) }.to_bytes().iter().copied();
+    let mut letters = letters.filter(|letter| *letter != b' ' && !letter.is_ascii_digit());
+    while let Some(letter) = letters.next() {
+        match letter {
+            b'e' => visit(place.enter(), number, &mut letters),
             b't' => match place.try_enter() {
-                Some(entered) => entered,
+                Some(entered) => visit(entered, number, &mut letters),
                 None => return,
             },
-            _ => continue,
-        };
-        let Ok(mut inside) = entered else { fail(c"poisoned") };
-        touch();
-        loop {
-            let Some((letter, rest)) = letters.split_first() else { fail(c"the script ends inside") };
-            letters = rest;
-            match letter {
-                b'l' => break,
-                b'?' => {
-                    if *inside == 0 && inside.wait(Hoare::Item, 0).is_err() {
-                        fail(c"poisoned")
-                    }
-                    if *inside == 0 {
-                        fail(c"a place resumes without an item")
-                    }
-                }
-                b'*' => {
-                    while *inside == 0 {
-                        if inside.wait_mesa(Mesa::Item, 0).is_err() {
-                            fail(c"poisoned")
-                        }
-                        touch();
-                    }
-                }
-                b's' => {
-                    let waits = inside.queue(Hoare::Item);
-                    if inside.signal(Hoare::Item).ok() != Some(waits) {
-                        fail(c"signal tells the wrong number")
-                    }
-                }
-                b'p' => {
-                    let waits = inside.queue(Hoare::Item);
-                    if inside.signal_leave(Hoare::Item) != waits {
-                        fail(c"signal_leave tells the wrong number")
-                    }
-                    break_to_next(&mut letters);
-                    inside = match next_enter(number, &mut letters) {
-                        Some(inside) => inside,
-                        None => return,
-                    };
-                }
-                b'n' => {
-                    let count = inside.count_mesa(Mesa::Item);
-                    if inside.notify(Mesa::Item) != (count > 0) {
-                        fail(c"notify tells the wrong number")
-                    }
-                }
-                b'b' => {
-                    let count = inside.count_mesa(Mesa::Item);
-                    if inside.broadcast(Mesa::Item) != count {
-                        fail(c"broadcast tells the wrong number")
-                    }
-                }
-                b'+' => *inside += 1,
-                b'-' => *inside = inside.checked_sub(1).unwrap_or_else(|| fail(c"there is no item")),
-                _ => continue,
-            }
-            touch();
+            b'd' => return rust_world::drop_place(number),
+            _ => fail(c"no such letter outside"),
         }
-        drop(inside);
     }
 }
-/// After `signal_leave`: on to the next enter of the script.
-fn break_to_next(letters: &mut &[u8]) {
-    while !letters.is_empty() && letters[0] != b'e' {
-        *letters = &letters[1..];
+
+fn visit(entered: LockResult<Inside<'_>>, number: u32, letters: &mut impl Iterator<Item = u8>) {
+    let is_err = entered.is_err();
+    let mut visited = Some(entered.unwrap_or_else(|poisoned| poisoned.into_inner()));
+    visited.as_ref().map(|inside| agrees(inside, is_err));
+    while let Some(inside) = visited {
+        unsafe { x_touch(number) };
+        visited = act(inside, number, letters.next());
     }
 }
-fn next_enter(number: u32, letters: &mut &[u8]) -> Option<zaulinte::Inside<'static, u32, Hoare, Mesa, Explored>> {
-    let (_, rest) = letters.split_first()?;
-    *letters = rest;
-    let place: &'static mut Place = unsafe { &mut *addr_of_mut!(PLACES).read().0.add(number as usize) };
-    let Ok(inside) = place.enter() else { fail(c"poisoned") };
+
+/// Tests that a call returned an error if a thread panicked inside, and only then.
+fn agrees(inside: &Inside<'_>, is_err: bool) {
+    if is_err != inside.is_poisoned {
+        fail(c"a call reports the wrong poison")
+    }
+}
+
+fn act<'a>(mut inside: Inside<'a>, number: u32, letter: Option<u8>) -> Option<Inside<'a>> {
+    match letter {
+        Some(b'l') => return None,
+        Some(b'p' | b'P') => return pass(inside),
+        Some(b'x') => return panic_inside(inside),
+        Some(b'F') => {
+            core::mem::forget(inside);
+            return None;
+        }
+        Some(b'?') => wait(&mut inside),
+        Some(b'*') => wait_mesa(&mut inside, number),
+        Some(b's') => signal(&mut inside),
+        Some(b'n') => notify(&mut inside),
+        Some(b'b') => broadcast(&mut inside),
+        Some(b'+') => inside.items += 1,
+        Some(b'-') => inside.items = inside.items.checked_sub(1).unwrap_or_else(|| fail(c"there is no item")),
+        _ => fail(c"no such letter inside"),
+    }
     Some(inside)
+}
+
+fn wait(inside: &mut Inside<'_>) {
+    if inside.items == 0 {
+        let is_err = inside.wait(Hoare::Item, 0).is_err();
+        agrees(inside, is_err);
+    }
+    if inside.items == 0 {
+        fail(c"a place resumes without an item")
+    }
+}
+
+fn wait_mesa(inside: &mut Inside<'_>, number: u32) {
+    while inside.items == 0 {
+        let is_err = inside.wait_mesa(Mesa::Item, 0).is_err();
+        agrees(inside, is_err);
+        unsafe { x_touch(number) };
+    }
+}
+
+fn signal(inside: &mut Inside<'_>) {
+    let waits = inside.queue(Hoare::Item);
+    let resumed = inside.signal(Hoare::Item);
+    agrees(inside, resumed.is_err());
+    if resumed.unwrap_or_else(|poisoned| poisoned.into_inner()) != waits {
+        fail(c"signal tells the wrong number")
+    }
+}
+
+fn pass<'a>(mut inside: Inside<'a>) -> Option<Inside<'a>> {
+    let waits = inside.queue(Hoare::Item);
+    if inside.signal_leave(Hoare::Item) != waits {
+        fail(c"signal_leave tells the wrong number")
+    }
+    None
+}
+
+fn notify(inside: &mut Inside<'_>) {
+    let count = inside.count_mesa(Mesa::Item);
+    if inside.notify(Mesa::Item) != (count > 0) {
+        fail(c"notify tells the wrong number")
+    }
+}
+
+fn broadcast(inside: &mut Inside<'_>) {
+    let count = inside.count_mesa(Mesa::Item);
+    if inside.broadcast(Mesa::Item) != count {
+        fail(c"broadcast tells the wrong number")
+    }
+}
+
+/// Does what a panic inside does: the guard is dropped while its thread unwinds.
+fn panic_inside<'a>(mut inside: Inside<'a>) -> Option<Inside<'a>> {
+    inside.is_poisoned = true;
+    let panics = &mut kept().panics[unsafe { rust_world::x_me() } as usize];
+    *panics = true;
+    drop(inside);
+    *panics = false;
+    None
 }

@@ -33,7 +33,11 @@ static void signal_on(monitor *m, int me, int c) { must(zaulinte_signal(&m->z, (
 static void signal_leave(monitor *m, int me, int c) {
     must(zaulinte_signal_leave(&m->z, (uint32_t)me, (uint32_t)c, NULL));
 }
-static int queue(monitor *m, int me, int c) { return zaulinte_queue(&m->z, (uint32_t)me, (uint32_t)c) == 1; }
+static int queue(monitor *m, int me, int c) {
+    bool waits;
+    must(zaulinte_queue(&m->z, (uint32_t)me, (uint32_t)c, &waits));
+    return waits;
+}
 static int waiting(monitor *m, int me) {
     uint64_t all = 0;
     for (uint32_t c = 0; c < CONDITIONS; c++) {

@@ -45,6 +45,11 @@ static void check_wait(zaulinte_monitor *m, uint32_t place, uint32_t c, uint64_t
     if (!w.count[c]++ || priority < w.first[c]) w.first[c] = priority;
     test_inv(m, place, "waits on ", name.text);
     test_rest(m, place, "waits on ", name.text, w);
+    uint64_t waiters = 0;
+    for (uint32_t k = 0; k < m->conditions; k++) waiters += w.count[k];
+    if (waiters < m->places) return;
+    FAIL(m, "all %" PRIu32 " places wait when place %" PRIu32 " waits on %s: none is left to signal", m->places, place,
+         name.text);
 }
 static void check_signal(zaulinte_monitor *m, uint32_t place, uint32_t c) {
     if (c >= m->hoare || zaulinte_door_queue(at(m, place), c) != 1) return;
@@ -70,6 +75,13 @@ static void check_enter(zaulinte_monitor *m, uint32_t place) {
         FAIL(m, "place %" PRIu32 " enters, but its thread is inside by place %" PRIu32, place, k);
     }
 }
+/* Fails if the refused call would be right with place and condition exchanged. */
+static void check_exchange(zaulinte_monitor *m, uint32_t place, uint32_t condition) {
+    if (place >= m->conditions || condition >= m->places) return;
+    if (NOTED(m->place[condition].thread) != port_thread()) return;
+    FAIL(m, "place %" PRIu32 " acts on condition %" PRIu32 ", but its thread is inside by place %" PRIu32
+         ": place and condition are exchanged", place, condition, condition);
+}
 static void note_address(zaulinte_monitor *m) { m->self = m; }
 static void check_address(zaulinte_monitor *m) {
     if (m->places && m->self != m) FAIL(m, "this monitor is a copy of that at %p", (void *)m->self);
@@ -81,6 +93,7 @@ static void check_address(zaulinte_monitor *m) {
 #define check_signal_leave(m, place, condition) ((void)(m))
 #define check_ready(m, place, condition, priority) ((void)(m))
 #define check_enter(m, place) ((void)(m))
+#define check_exchange(m, place, condition) ((void)(condition))
 #define note_address(m) ((void)(m))
 #define check_address(m) ((void)(m))
 void zaulinte_check(zaulinte_monitor *m, zaulinte_inv inv, zaulinte_rest rest, zaulinte_ready ready, void *context) {

@@ -89,10 +89,21 @@ static void print_away(zaulinte_monitor *m, const char *words, int why, uint32_t
     for (; place != NOBODY; place = next_away(m, why, condition, place)) fprintf(stderr, " %" PRIu32, place);
     fputc('\n', stderr);
 }
+static void print_group(zaulinte_group *g) {
+    uint32_t first = 0, many = 0, borrowed = 0;
+    for (uint32_t k = 64; k-- > 0;) {
+        if (!(g->all >> k & 1)) continue;
+        first = k, many++;
+        borrowed += !(NOTED(g->free) >> k & 1);
+    }
+    fprintf(stderr, "  group of places %" PRIu32 " to %" PRIu32 ": %" PRIu32 " of %" PRIu32 " borrowed, %" PRIu32
+            " threads want one\n", first, first + many - 1, borrowed, many, (uint32_t)NOTED(g->sleepers));
+}
 void zaulinte_dump(zaulinte_monitor *m) {
     fprintf(stderr, "zaulinte: monitor %s at %p, %" PRIu32 " places\n", m->name ? m->name : "without a name", (void *)m,
             (uint32_t)m->places);
     for (uint32_t k = 0; k < m->places; k++) print_place(m, k);
+    for (zaulinte_group *g = m->places ? m->groups : NULL; g; g = g->next) print_group(g);
     print_away(m, "to return from a signal", HAS_SIGNALLED, 8);
     print_away(m, "to resume as notified", WAS_NOTIFIED, 8);
     for (uint32_t c = 0; c < m->conditions; c++) print_away(m, "waiting on ", WAITS, c);

@@ -19,6 +19,12 @@ static zaulinte_door_place *at(zaulinte_monitor *m, uint32_t place) { return &m-
 static bool is_rung(zaulinte_bell *b) { return atomic_load(&b->word) >= RUNG; }
 #include "zaulinte_dump.h"
 #include "zaulinte_checks.h"
+/* Returns why the number isn't that of a place, or 0. */
+static uint64_t no_such_place(zaulinte_monitor *m, uint32_t place) {
+    uint32_t places = atomic_load_explicit(&m->places, memory_order_relaxed); /* written by `make` and `free` alone */
+    if (place < places) return 0;
+    return places ? ZAULINTE_NO_PLACE : ZAULINTE_NO_BOOK;
+}
 static bool has_threads(zaulinte_monitor *m) {
     for (uint32_t k = 0; k < m->places; k++)
         if (m->place[k].thread) return true;
@@ -29,10 +35,10 @@ static bool has_threads(zaulinte_monitor *m) {
 /* Claims a place that is outside for the calling thread. Until `unclaim` only that thread makes steps with it, so two
  * threads never do at once. */
 static uint64_t claim(zaulinte_monitor *m, uint32_t place) {
-    uint32_t places = m->places;
+    uint64_t refused = no_such_place(m, place);
     uintptr_t none = 0;
     check_address(m);
-    if (place >= places) return places || place >= 64 ? ZAULINTE_NO_PLACE : ZAULINTE_NO_BOOK;
+    if (refused) return refused;
     bool is_claimed = atomic_compare_exchange_strong(&m->place[place].thread, &none, port_thread());
     return is_claimed ? 0 : ZAULINTE_NOT_OUTSIDE;
 }
@@ -43,19 +49,33 @@ static uint64_t unclaim(zaulinte_monitor *m, uint32_t place, uint64_t code) {
 }
 /* Returns why the calling thread can't act by the place, or 0: it has claimed it, so the place is inside. */
 static uint64_t may_act(zaulinte_monitor *m, uint32_t place) {
-    if (place >= 64) return ZAULINTE_NO_PLACE;
+    uint64_t refused = no_such_place(m, place);
+    if (refused) return refused;
     /* relaxed: it is the thread's own number only if the thread's own claim wrote it last */
     uintptr_t thread = atomic_load_explicit(&m->place[place].thread, memory_order_relaxed);
     if (thread != port_thread()) return thread ? ZAULINTE_NOT_OUTSIDE : ZAULINTE_NOT_INSIDE;
     return 0;
 }
+#define ON zaulinte_monitor *m, uint32_t place, uint32_t condition
+static uint64_t may_act_on(ON) {
+    uint64_t refused = may_act(m, place);
+    if (refused) check_exchange(m, place, condition);
+    return refused;
+}
+/* Writes the word of a bell, and wakes a thread that sleeps on it. */
+static void ring(zaulinte_bell *b, uint32_t how) {
+    if (atomic_exchange(&b->word, how) == ASLEEP) port_wake_one(b);
+}
+/* Wakes one of the threads that sleep on the bell of an entrance, or of a group. */
+static void wake_sleeper(zaulinte_bell *b) {
+    /* sequentially consistent, as the step before it: docs/WAKING.md */
+    if (atomic_load(&b->word) == ASLEEP) ring(b, AWAKE);
+}
 /* Rings the place that has the monitor next with `how`, and wakes its thread. If no place has it (`next` is NOBODY),
  * wakes one entering thread. */
 static void wake(zaulinte_monitor *m, uint64_t next, uint32_t how) {
-    zaulinte_bell *b = next < NOBODY ? &m->place[next].bell : &m->entrance;
-    /* sequentially consistent, as the step before it: docs/WAKING.md */
-    if (next == NOBODY && atomic_load(&b->word) != ASLEEP) return;
-    if (atomic_exchange(&b->word, next < NOBODY ? how : AWAKE) == ASLEEP) port_wake_one(b);
+    if (next < NOBODY) ring(&m->place[next].bell, how);
+    else wake_sleeper(&m->entrance);
 }
 
 /* Lets other places enter first. If place P leaves and hands off the monitor to `p`, then `p` would mostly enter again
@@ -138,8 +158,8 @@ uint64_t zaulinte_leave(zaulinte_monitor *m, uint32_t place) {
     wake(m, zaulinte_door_leave(at(m, place)), LEFT);
     return unclaim(m, place, 0);
 }
-uint64_t zaulinte_wait(zaulinte_monitor *m, uint32_t place, uint32_t condition, uint64_t priority) {
-    uint64_t refused = may_act(m, place);
+uint64_t zaulinte_wait(ON, uint64_t priority) {
+    uint64_t refused = may_act_on(m, place, condition);
     if (refused) return refused;
     check_wait(m, place, condition, priority);
     NOTE_ACT(WAIT, condition, priority);
@@ -151,8 +171,8 @@ uint64_t zaulinte_wait(zaulinte_monitor *m, uint32_t place, uint32_t condition, 
     check_ready(m, place, condition, priority);
     return 0;
 }
-uint64_t zaulinte_signal(zaulinte_monitor *m, uint32_t place, uint32_t condition, bool *resumed) {
-    uint64_t refused = may_act(m, place);
+uint64_t zaulinte_signal(ON, bool *resumed) {
+    uint64_t refused = may_act_on(m, place, condition);
     if (refused) return refused;
     check_signal(m, place, condition);
     NOTE_ACT(SIGNAL, condition, 0);
@@ -165,8 +185,8 @@ uint64_t zaulinte_signal(zaulinte_monitor *m, uint32_t place, uint32_t condition
     if (next < NOBODY) resumes(m, place, next);
     return 0;
 }
-uint64_t zaulinte_signal_leave(zaulinte_monitor *m, uint32_t place, uint32_t condition, bool *resumed) {
-    uint64_t refused = may_act(m, place);
+uint64_t zaulinte_signal_leave(ON, bool *resumed) {
+    uint64_t refused = may_act_on(m, place, condition);
     if (refused) return refused;
     bool waited = resumed && zaulinte_door_queue(at(m, place), condition) == 1;
     check_signal_leave(m, place, condition);
@@ -184,10 +204,8 @@ static uint64_t tell(uint64_t number, uint64_t *to) {
     if (number <= NOBODY && to) *to = number;
     return number <= NOBODY ? 0 : number;
 }
-#define ON zaulinte_monitor *m, uint32_t place, uint32_t condition
-#define IF_INSIDE(step) { uint64_t refused = may_act(m, place); return refused ? refused : (step); }
 static uint64_t notifies(ON, uint64_t *called, uint8_t kind, uint64_t (*step)(zaulinte_door_place *, uint64_t)) {
-    uint64_t refused = may_act(m, place);
+    uint64_t refused = may_act_on(m, place, condition);
     if (refused) return refused;
     NOTE_ACT(kind, condition, 0);
     uint64_t many = step(at(m, place), condition);
@@ -200,14 +218,19 @@ uint64_t zaulinte_notify(ON, uint64_t *called) {
 uint64_t zaulinte_broadcast(ON, uint64_t *called) {
     return notifies(m, place, condition, called, BROADCAST, zaulinte_door_broadcast);
 }
-uint64_t zaulinte_count(ON, uint64_t *count) IF_INSIDE(tell(zaulinte_door_count(at(m, place), condition), count))
-uint64_t zaulinte_queue(ON) IF_INSIDE(zaulinte_door_queue(at(m, place), condition))
-uint64_t zaulinte_first(ON, uint64_t *priority) {
-    uint64_t least = 0, refused = may_act(m, place); /* MemorySanitizer doesn't see that the archive writes it */
-    uint64_t some = refused ? refused : zaulinte_door_first(at(m, place), condition, &least);
-    if (some == 1) *priority = least;
-    return some;
+uint64_t zaulinte_count(ON, uint64_t *count) {
+    uint64_t refused = may_act_on(m, place, condition);
+    return refused ? refused : tell(zaulinte_door_count(at(m, place), condition), count);
 }
+uint64_t zaulinte_first(ON, bool *waits, uint64_t *priority) {
+    uint64_t least = 0, refused = may_act_on(m, place, condition); /* MemorySanitizer doesn't see the archive's write */
+    uint64_t some = refused ? refused : zaulinte_door_first(at(m, place), condition, &least);
+    if (some > 1) return some;
+    if (waits) *waits = some;
+    if (some && priority) *priority = least;
+    return 0;
+}
+uint64_t zaulinte_queue(ON, bool *waits) { return zaulinte_first(m, place, condition, waits, NULL); }
 
 /* Gives the places back, closes the door, and returns `code`, or why the door isn't closed. No call is under way. */
 static uint64_t undo(zaulinte_monitor *m, uint32_t places, uint64_t code) {
@@ -235,7 +258,7 @@ uint64_t zaulinte_make(zaulinte_monitor *m, uint64_t places, uint64_t conditions
     }
     if (refused) return undo(m, (uint32_t)places, refused);
     m->conditions = (uint16_t)conditions, m->hoare = (uint16_t)(conditions - mesa);
-    m->name = m->names = NULL, m->show = NULL, m->recording = NULL;
+    m->name = m->names = NULL, m->show = NULL, m->recording = NULL, m->groups = NULL;
     note_address(m);
     m->places = (uint32_t)places;
     return 0;
@@ -244,3 +267,4 @@ uint64_t zaulinte_free(zaulinte_monitor *m) {
     if (has_threads(m)) return ZAULINTE_IN_USE;
     return m->places ? undo(m, m->places, 0) : ZAULINTE_NO_BOOK;
 }
+#include "zaulinte_group.h"

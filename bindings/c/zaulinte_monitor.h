@@ -91,8 +91,19 @@ typedef bool (*zaulinte_ready)(void *context, uint32_t condition, uint64_t prior
 /* The last acts of a monitor, in memory of the caller's (`zaulinte_record`). */
 typedef struct zaulinte_recording zaulinte_recording;
 
+/* Some places of a monitor, which threads borrow (`zaulinte_group_make`). Start with memory that is all zero. */
+typedef struct zaulinte_group {
+    zaulinte_bell bell;               /* threads that want a place sleep on it */
+    ZAULINTE_WORD(uint32_t) sleepers; /* these threads: asleep, about to sleep, or woken and without a place yet */
+    ZAULINTE_WORD(uint64_t) free;     /* a bit for each place that no thread has borrowed */
+    uint64_t all;                     /* a bit for each place. 0: there is no group */
+    struct zaulinte_monitor *of;
+    struct zaulinte_group *next; /* of the same monitor */
+} zaulinte_group;
+
 /* A monitor. Start with `static zaulinte_monitor m;`, with memory that is all zero at an address that is a multiple of
- * 64, or with `zaulinte_new`. It has a size of some 4 KB, with condition variables of some 8 KB. */
+ * 64, or with `zaulinte_new`. It has a size of some 4 KB, with condition variables of some 8 KB; `zaulinte_new`
+ * allocates only the places that there are. */
 typedef struct zaulinte_monitor {
     alignas(64) zaulinte_bell entrance; /* entering threads sleep on it */
     ZAULINTE_WORD(uint32_t) sleepers;   /* entering threads: asleep, about to sleep, or woken and not in yet */
@@ -104,6 +115,7 @@ typedef struct zaulinte_monitor {
     const char *name, *names; /* of the monitor and of its conditions */
     void (*show)(void *data);
     void *data;
+    zaulinte_group *groups;
 #ifdef ZAULINTE_CHECKS
     uint32_t signaller; /* the place that signalled last */
     struct zaulinte_monitor *self;
@@ -139,47 +151,71 @@ ZAULINTE_CODE zaulinte_make(zaulinte_monitor *m, uint64_t places, uint64_t condi
  * the threads first, so that none begins a call meanwhile. */
 ZAULINTE_CODE zaulinte_free(zaulinte_monitor *m);
 
-/* The calls of a place. Each returns 0 (`queue` and `first`: 1 or 0), or a refusal, and then nothing happened.
+/* The calls of a place. Each returns 0, or a refusal, and then nothing happened.
  *
  * A place belongs to one thread at a time, from its `enter` until it has left. A call of another thread by that place
- * is refused with 103. A place that acts is refused with 101 if its number is 64 or more, with 103 if it is
- * another thread's, and with 104 if it is outside. After that, if the call has a condition, it is refused with 105 if
- * there is no such condition, and with 106 if the condition is of the other kind.
+ * is refused with 103. A place that acts is refused with 107 if there is no monitor, with 101 if there is no such
+ * place, with 103 if it is another thread's, and with 104 if it is outside. After that, if the call has a condition, it
+ * is refused with 105 if there is no such condition, and with 106 if the condition is of the other kind. A build with
+ * ZAULINTE_CHECKS ends the program if place and condition seem to be exchanged.
  *
- * Lets `place` (below the number of places) enter, and returns 0. Blocks until it can enter. Refused: 101 no such
- * place, 107 no monitor, 103 the place is inside, waits, or is another thread's. */
+ * Lets `place` (below the number of places) enter, and returns 0. Blocks until it can enter. Refused: 107 no monitor,
+ * 101 no such place, 103 the place is inside, waits, or is another thread's. */
 ZAULINTE_CODE zaulinte_enter(zaulinte_monitor *m, uint32_t place);
-/* Lets `place` enter if the monitor is free at this moment, and returns 0. Never blocks. Refused: 101, 107 and 103 as
+/* Lets `place` enter if the monitor is free at this moment, and returns 0. Never blocks. Refused: 107, 101 and 103 as
  * `enter`, 102 the monitor isn't free. docs/KERNEL.md has the calls that an interrupt handler of a kernel may make. */
 ZAULINTE_CODE zaulinte_try_enter(zaulinte_monitor *m, uint32_t place);
-/* Lets `place` leave, and returns 0. Refused: 101, 103, 104. */
+/* Lets `place` leave, and returns 0. Refused: 107, 101, 103, 104. */
 ZAULINTE_CODE zaulinte_leave(zaulinte_monitor *m, uint32_t place);
 /* Lets `place` wait on `condition` (below the number of conditions) with `priority`, any number; a signal resumes the
  * waiter of least priority, of equal ones the longest waiting. Blocks until the place is resumed, and returns 0: it is
- * inside. Refused: 101, 103, 104, 105. */
+ * inside. Refused: 107, 101, 103, 104, 105. */
 ZAULINTE_CODE zaulinte_wait(zaulinte_monitor *m, uint32_t place, uint32_t condition, uint64_t priority);
 /* Lets `place` signal `condition`, one of Hoare's. If a place waits on it, that place is inside at once, and the call
  * blocks until `place` returns. Returns 0, with `place` inside. Writes to *resumed, a word of the thread's own, true if
- * a place waited, else false; `resumed` may be NULL. Refused: 101, 103, 104, 105, 106 a Mesa condition. */
+ * a place waited, else false; `resumed` may be NULL. Refused: 107, 101, 103, 104, 105, 106 a Mesa condition. */
 ZAULINTE_CODE zaulinte_signal(zaulinte_monitor *m, uint32_t place, uint32_t condition, bool *resumed);
 /* Lets `place` signal `condition`, one of Hoare's, and leave, in one step; returns 0. Writes *resumed, and is refused,
  * as `signal`. */
 ZAULINTE_CODE zaulinte_signal_leave(zaulinte_monitor *m, uint32_t place, uint32_t condition, bool *resumed);
 /* Lets `place` notify the waiter on the Mesa condition `condition` that a signal would resume, and returns 0. The
  * notified place resumes later, and tests again. Writes the number of notified places, 1 or 0, to *called, which may be
- * NULL. Refused: 101, 103, 104, 105, 106 one of Hoare's conditions. */
+ * NULL. Refused: 107, 101, 103, 104, 105, 106 one of Hoare's conditions. */
 ZAULINTE_CODE zaulinte_notify(zaulinte_monitor *m, uint32_t place, uint32_t condition, uint64_t *called);
 /* Lets `place` notify all waiters on the Mesa condition `condition`, and returns 0. Writes their number, at most 63, to
  * *called, which may be NULL. Refused as `notify`. */
 ZAULINTE_CODE zaulinte_broadcast(zaulinte_monitor *m, uint32_t place, uint32_t condition, uint64_t *called);
-/* Returns 1 if a place waits on `condition` (a notified place doesn't), else 0. Refused: 101, 103, 104, 105. */
-ZAULINTE_CODE zaulinte_queue(zaulinte_monitor *m, uint32_t place, uint32_t condition);
-/* Returns 1 if a place waits on `condition`, and writes the priority of the place that a signal would resume to
- * *priority. Else returns 0. Refused: 101, 103, 104, 105. Unless 1 is returned, *priority stays. */
-ZAULINTE_CODE zaulinte_first(zaulinte_monitor *m, uint32_t place, uint32_t condition, uint64_t *priority);
+/* Writes to *waits true if a place waits on `condition` (a notified place doesn't), else false, and returns 0. Refused:
+ * 107, 101, 103, 104, 105; *waits then stays. */
+ZAULINTE_CODE zaulinte_queue(zaulinte_monitor *m, uint32_t place, uint32_t condition, bool *waits);
+/* As `queue`; if a place waits on `condition`, also writes the priority of the place that a signal would resume to
+ * *priority, which stays otherwise. Either pointer may be NULL. Refused as `queue`. */
+ZAULINTE_CODE zaulinte_first(zaulinte_monitor *m, uint32_t place, uint32_t condition, bool *waits, uint64_t *priority);
 /* Writes the number of places that wait on `condition` to *count, which may be NULL, and returns 0. Refused: 101, 103,
  * 104, 105; *count then stays. */
 ZAULINTE_CODE zaulinte_count(zaulinte_monitor *m, uint32_t place, uint32_t condition, uint64_t *count);
+
+/* More threads than places. A thread borrows a place of a group, for one visit or for as long as it lives, and calls
+ * with its number. A thread that waits keeps its place. So those threads that signal need a group of their own: else
+ * all places may wait, and no thread gets one to signal. A build with ZAULINTE_CHECKS ends the program at a wait after
+ * which all places of a monitor wait, and a dump shows what each group has lent.
+ *
+ * Makes a group of the `count` places of `m` from `first` on, and returns 0. Call it before threads borrow of any group
+ * of `m`. Refused, in this order: 108 there is a group already, 107 there is no monitor, 109 it hasn't these places, or
+ * `count` is 0, 112 another group has one of them. */
+ZAULINTE_CODE zaulinte_group_make(zaulinte_group *g, zaulinte_monitor *m, uint32_t first, uint32_t count);
+/* Frees what `zaulinte_group_make` made, and returns 0. Join its threads before, and free its monitor afterwards.
+ * Refused: 107 there is no group, 112 a place is borrowed. A refusal changes nothing. */
+ZAULINTE_CODE zaulinte_group_free(zaulinte_group *g);
+/* Borrows a place of the group, writes its number to *place, and returns 0. Blocks until a place is free; in which
+ * order blocked threads get places isn't specified. Refused: 107 there is no group. */
+ZAULINTE_CODE zaulinte_borrow(zaulinte_group *g, uint32_t *place);
+/* Borrows a place as `zaulinte_borrow`, but never blocks. Refused: 107 there is no group, 102 no place is free at this
+ * moment; *place then stays. */
+ZAULINTE_CODE zaulinte_try_borrow(zaulinte_group *g, uint32_t *place);
+/* Gives a borrowed place back, and returns 0. Never blocks. Refused: 107 there is no group, 101 the group hasn't lent
+ * such a place, 103 the place isn't outside. */
+ZAULINTE_CODE zaulinte_give_back(zaulinte_group *g, uint32_t place);
 
 /* Sets what holds of the data, `context`. Call it after `zaulinte_make`, before any thread enters. A build with
  * ZAULINTE_CHECKS tests it at each wait, signal and leave. If a check fails, it prints to standard error the file and
@@ -255,7 +291,7 @@ bool zaulinte_save(zaulinte_monitor *m, const char *path);
 
 #if __STDC_HOSTED__
 /* Tests the code that a call returned. If it isn't 0, prints file, line, call, text and code to standard error, and
- * aborts. Not for `queue` and `first`, which may return 1. */
+ * aborts. */
 #define ZAULINTE_CHECK(call) zaulinte_test((call), #call, __FILE__, __LINE__)
 static inline void zaulinte_test(uint64_t code, const char *call, const char *file, int line) {
     if (!code) return;
@@ -266,8 +302,10 @@ static inline void zaulinte_test(uint64_t code, const char *call, const char *fi
  * be NULL. Returns a null pointer if it is refused, and writes the reason to *code: 109 bad number of places, 110 bad
  * number of conditions or of Mesa conditions, 111 an allocation failed. */
 static inline zaulinte_monitor *zaulinte_new(uint64_t places, uint64_t conditions, uint64_t mesa, uint64_t *code) {
-    void *at = aligned_alloc(64, sizeof(zaulinte_monitor));
-    zaulinte_monitor *m = (zaulinte_monitor *)(at ? memset(at, 0, sizeof *m) : NULL);
+    size_t used = places < 64 ? (size_t)places : 64;
+    size_t size = offsetof(zaulinte_monitor, place) + used * sizeof(zaulinte_place);
+    void *at = aligned_alloc(64, size);
+    zaulinte_monitor *m = (zaulinte_monitor *)(at ? memset(at, 0, size) : NULL);
     uint64_t refused = m ? zaulinte_make(m, places, conditions, mesa) : (uint64_t)ZAULINTE_NO_MEMORY;
     if (code) *code = refused;
     if (!refused) return m;

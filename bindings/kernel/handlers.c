@@ -27,9 +27,12 @@ static void leave(uint32_t place) {
 /* the calls of a place inside, by the handler and by the thread that sweeps */
 static uint64_t ask(uint32_t place, uint32_t condition) { /* returns how many wait */
     uint64_t count = 99, priority = 0;
+    bool in_queue, has_first;
     CHECK(zaulinte_count(&hall.m, place, condition, &count));
-    must_be(zaulinte_queue(&hall.m, place, condition), count > 0, "queue");
-    must_be(zaulinte_first(&hall.m, place, condition, &priority), count > 0, "first");
+    CHECK(zaulinte_queue(&hall.m, place, condition, &in_queue));
+    must_be(in_queue, count > 0, "queue");
+    CHECK(zaulinte_first(&hall.m, place, condition, &has_first, &priority));
+    must_be(has_first, count > 0, "first");
     note("asked %u %u %lu %lu %lu\n", place, condition, count, priority, hall.data);
     return count;
 }

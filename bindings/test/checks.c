@@ -82,6 +82,7 @@ static uint64_t errs(const char *fault) {
     const char *act = strchr(fault, '-');
     static zaulinte_monitor copy;
     if (!strcmp(fault, "twice")) return zaulinte_enter(&m, SPARE);
+    if (!strcmp(fault, "exchanged")) return zaulinte_signal(&m, NONEMPTY, PRODUCER, NULL);
     if (!strcmp(fault, "copy")) return zaulinte_enter(memcpy(&copy, &m, sizeof m), SPARE);
     store.items = strncmp(fault, "inv", 3) == 0 ? -1 : strncmp(fault, "rest", 4) == 0;
     if (!act) account(NONEMPTY, 1, LATER); /* ready: there is no item */

@@ -52,6 +52,7 @@ static void keeps_nothing(void) {
 /* each act by a place that no monitor has */
 static void by_no_place(uint32_t place) {
     uint64_t number;
+    bool waits;
     IS(zaulinte_enter(&m, place), ZAULINTE_NO_PLACE);
     IS(zaulinte_try_enter(&m, place), ZAULINTE_NO_PLACE);
     IS(zaulinte_leave(&m, place), ZAULINTE_NO_PLACE);
@@ -60,8 +61,8 @@ static void by_no_place(uint32_t place) {
     IS(zaulinte_signal_leave(&m, place, 0, NULL), ZAULINTE_NO_PLACE);
     IS(zaulinte_notify(&m, place, 0, NULL), ZAULINTE_NO_PLACE);
     IS(zaulinte_broadcast(&m, place, 0, NULL), ZAULINTE_NO_PLACE);
-    IS(zaulinte_queue(&m, place, 0), ZAULINTE_NO_PLACE);
-    IS(zaulinte_first(&m, place, 0, &number), ZAULINTE_NO_PLACE);
+    IS(zaulinte_queue(&m, place, 0, &waits), ZAULINTE_NO_PLACE);
+    IS(zaulinte_first(&m, place, 0, &waits, &number), ZAULINTE_NO_PLACE);
     IS(zaulinte_count(&m, place, 0, NULL), ZAULINTE_NO_PLACE);
 }
 static void sizes(void) {
@@ -75,14 +76,12 @@ static void sizes(void) {
     IS(zaulinte_free(&m), ZAULINTE_NO_BOOK);
     keeps_nothing();
     IS(zaulinte_enter(&m, 0), ZAULINTE_NO_BOOK);
-    IS(zaulinte_leave(&m, 0), ZAULINTE_NOT_INSIDE);
-    by_no_place(64);
+    IS(zaulinte_leave(&m, 0), ZAULINTE_NO_BOOK);
     for (uint64_t places = 1; places <= 64; places++) {
         IS(zaulinte_make(&m, places, 8, places % 9), 0);
         IS(zaulinte_make(&m, 1, 1, 0), ZAULINTE_IS_MADE);
         for (uint32_t k = 0; k < places; k++) IS(zaulinte_enter(&m, k), 0), IS(zaulinte_leave(&m, k), 0);
-        if (places < 64) IS(zaulinte_enter(&m, (uint32_t)places), ZAULINTE_NO_PLACE);
-        if (places == 64) by_no_place(64), by_no_place(UINT32_MAX);
+        by_no_place((uint32_t)places), by_no_place(UINT32_MAX);
         IS(zaulinte_free(&m), 0);
         keeps_nothing();
     }
@@ -102,7 +101,12 @@ static void places(void) {
     IS(zaulinte_signal_leave(&m, 0, 1, &resumed), ZAULINTE_WRONG_KIND);
     IS(resumed, true);
     IS(zaulinte_notify(&m, 0, 0, &number), ZAULINTE_WRONG_KIND);
-    IS(zaulinte_first(&m, 0, 0, &number), 0);
+    IS(zaulinte_first(&m, 0, 0, &resumed, &number), 0);
+    IS(resumed, false);
+    IS(zaulinte_first(&m, 0, 1, NULL, NULL), 0);
+    resumed = true;
+    IS(zaulinte_queue(&m, 0, 9, &resumed), ZAULINTE_NO_CONDITION);
+    IS(resumed, true);
     IS(zaulinte_count(&m, 0, 9, &number), ZAULINTE_NO_CONDITION);
     IS(number, 77);
     IS(zaulinte_signal(&m, 0, 0, &resumed), 0);

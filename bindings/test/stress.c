@@ -57,11 +57,17 @@ static void goes(uint32_t me) {
     put(LEAVE, me, 0, 0, 0);
     is(zaulinte_leave(&m, me), 0);
 }
-static bool somebody(uint32_t me, uint32_t c) { return zaulinte_queue(&m, me, c) == 1; }
+static bool somebody(uint32_t me, uint32_t c) {
+    bool waits;
+    is(zaulinte_queue(&m, me, c, &waits), 0);
+    return waits;
+}
 static uint64_t asks(uint32_t me, uint32_t c) {
     uint64_t count = 0, first; /* MemorySanitizer sees if nobody writes it */
+    bool waits;
     is(zaulinte_count(&m, me, c, &count), 0);
-    is(zaulinte_first(&m, me, c, &first), count > 0);
+    is(zaulinte_first(&m, me, c, &waits, &first), 0);
+    is(waits, count > 0);
     if (count == 0) first = 0;
     if (first > 3) fails("a priority that no place has");
     put(ASKED, me, c, count, first);
@@ -151,8 +157,10 @@ static void saves(uint32_t me, uint32_t turn) {
     if (!script || !wanted) fails("no file");
     for (uint32_t c = 0; c < CONDITIONS; c++) {
         uint64_t first = 0;
+        bool waits;
         fprintf(script, "first %" PRIu32 "\n", c);
-        if (zaulinte_first(&m, me, c, &first) == 1) fprintf(wanted, "first %" PRIu32 " -> %" PRIu64 "\n", c, first);
+        is(zaulinte_first(&m, me, c, &waits, &first), 0);
+        if (waits) fprintf(wanted, "first %" PRIu32 " -> %" PRIu64 "\n", c, first);
         else fprintf(wanted, "first %" PRIu32 " -> none\n", c);
     }
     fclose(script), fclose(wanted);

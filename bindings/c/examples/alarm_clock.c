@@ -14,8 +14,9 @@ static struct {
 
 static void signal_due(uint32_t place) {
     uint64_t first;
-    if (zaulinte_first(&alarms.m, place, WAKE_UP, &first) == 1 && first <= alarms.now)
-        ZAULINTE_CHECK(zaulinte_signal(&alarms.m, place, WAKE_UP, NULL));
+    bool waits;
+    ZAULINTE_CHECK(zaulinte_first(&alarms.m, place, WAKE_UP, &waits, &first));
+    if (waits && first <= alarms.now) ZAULINTE_CHECK(zaulinte_signal(&alarms.m, place, WAKE_UP, NULL));
 }
 static uint64_t wake_me(uint32_t place, uint64_t in) {
     ZAULINTE_CHECK(zaulinte_enter(&alarms.m, place));

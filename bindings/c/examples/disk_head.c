@@ -23,8 +23,9 @@ static void request(uint32_t place, uint64_t cylinder) {
 }
 static void release(uint32_t place) {
     uint64_t sweep;
+    bool waits;
     ZAULINTE_CHECK(zaulinte_enter(&disk.m, place));
-    uint64_t waits = zaulinte_queue(&disk.m, place, (uint32_t)zaulinte_head_sweep(&disk.head));
+    ZAULINTE_CHECK(zaulinte_queue(&disk.m, place, (uint32_t)zaulinte_head_sweep(&disk.head), &waits));
     ZAULINTE_CHECK(zaulinte_head_give_back(&disk.head, waits, &sweep));
     ZAULINTE_CHECK(zaulinte_signal_leave(&disk.m, place, (uint32_t)sweep, NULL));
 }

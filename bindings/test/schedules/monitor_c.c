@@ -91,9 +91,14 @@ static bool enters(uint32_t place, char letter) {
     if (code != ZAULINTE_NOT_OUTSIDE && code != ZAULINTE_NOT_INSIDE) x_fail("another thread's place leaves");
     return false;
 }
+static bool somebody(uint32_t place, uint32_t condition) {
+    bool waits;
+    CHECK(zaulinte_queue(s.m, place, condition, &waits), 0);
+    return waits;
+}
 static bool leaves(uint32_t place, char letter, uint32_t condition) {
     bool resumed = false, *to = letter == 'p' ? &resumed : NULL;
-    bool waits = letter == 'p' && zaulinte_queue(s.m, place, condition) == 1;
+    bool waits = letter == 'p' && somebody(place, condition);
     s.claims[place] = 0;
     if (letter == 'l') CHECK(zaulinte_leave(s.m, place), 0);
     else CHECK(zaulinte_signal_leave(s.m, place, condition, to), 0);
@@ -110,7 +115,7 @@ static bool waits(uint32_t place, char letter, uint32_t condition) {
     return true;
 }
 static bool signals(uint32_t place, uint32_t condition) {
-    bool resumed, waits = zaulinte_queue(s.m, place, condition) == 1;
+    bool resumed, waits = somebody(place, condition);
     CHECK(zaulinte_signal(s.m, place, condition, &resumed), 0);
     if (resumed != waits) x_fail("signal tells the wrong number");
     return true;

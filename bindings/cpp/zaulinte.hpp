@@ -9,8 +9,9 @@
 //         in->free--;
 //     }                                            // it leaves
 //
-// A refused call throws `refused`, and nothing happened. No destructor throws. If an exception leaves the scope of an
-// `inside`, its place leaves the monitor, with the data as they are.
+// A refused call throws `refused`, and nothing happened. If an exception leaves the scope of an `inside`, its place
+// leaves the monitor, with the data as they are. No destructor throws: one that can't do its task prints a line and a
+// dump to standard error, and terminates the program. For more threads than places there is `group`.
 #pragma once
 #if __cplusplus < 201703L
 #error "zaulinte.hpp is for C++17: compile with -std=c++17, or newer"
@@ -18,6 +19,7 @@
 #include "zaulinte_monitor.h"
 #include <cstddef>
 #include <cstdint>
+#include <cstdio>
 #include <exception>
 #include <memory>
 #include <optional>
@@ -89,6 +91,15 @@ class refused : public std::logic_error {
     std::uint64_t code() const noexcept { return why; }
 };
 
+// Ends the program in a destructor that is refused: prints to standard error the monitor's name, what is destroyed and
+// why it can't be, then a dump, and calls std::terminate.
+[[noreturn]] inline void terminates(zaulinte_monitor &m, std::uint64_t code, const std::string &what) noexcept {
+    std::fprintf(stderr, "zaulinte: %s%s%s: %s\n", m.name ? m.name : "", m.name ? ": " : "", what.c_str(),
+                 zaulinte_text(code));
+    zaulinte_dump(&m);
+    std::terminate();
+}
+
 // A monitor with data T, Hoare's conditions C and Mesa conditions M, both enums of ZAULINTE_CONDITIONS: 1 to 8 in all.
 template <class T, class C, class M = no_conditions> class monitor {
     static constexpr condition_names hoare = zaulinte_names(C{}), mesa = zaulinte_names(M{});
@@ -117,10 +128,7 @@ template <class T, class C, class M = no_conditions> class monitor {
         std::string on = n < zaulinte_names(c).count() ? zaulinte_names(c).name(n) : std::to_string(n);
         throw refused(code, std::string(call) + " by place " + std::to_string(place) + " on condition " + on);
     }
-    // Lets the place leave, in a destructor. The place is inside, so only a call of another thread is refused.
-    void leaves(unsigned place) noexcept {
-        if (zaulinte_leave(&m, place)) std::terminate();
-    }
+    template <class> friend class group;
 
   public:
     using data_type = T;
@@ -139,7 +147,7 @@ template <class T, class C, class M = no_conditions> class monitor {
     // Frees the monitor. Before that its threads have ended, or make no more calls. If a place is inside or waits, the
     // program is terminated.
     ~monitor() {
-        if (zaulinte_free(&m)) std::terminate();
+        if (std::uint64_t code = zaulinte_free(&m)) terminates(m, code, "the monitor is destroyed");
     }
 
     // Names the monitor, for dumps and for the lines of checks. Its conditions have the names of their enums. The text
@@ -210,8 +218,9 @@ template <class T, class C, class M = no_conditions> class monitor {
     }
 
   public:
-    // A place that is inside, with access to the data. Its destructor leaves. If a thread that doesn't have the place
-    // destroys it, the program is terminated.
+    // A place that is inside, with access to the data: a guard. Its destructor leaves. It can be moved: then the guard
+    // that it was moved to leaves, and the other refuses every call. If a thread that doesn't have the place destroys
+    // the guard, the program is terminated.
     class inside {
         monitor *of;
         unsigned number;
@@ -219,6 +228,13 @@ template <class T, class C, class M = no_conditions> class monitor {
         from entered; // of the enter: its destructor's leave has no line
         friend class monitor;
         inside(monitor *m, unsigned k, from where) noexcept : of(m), number(k), entered(where) {}
+        // Lets the place leave, unless it has left. The place is inside, so only a call of another thread is refused.
+        void ends() noexcept {
+            if (!std::exchange(is, false)) return;
+            entered.tell();
+            std::uint64_t code = zaulinte_leave(&of->m, number);
+            if (code) terminates(of->m, code, "the guard of place " + std::to_string(number) + " is destroyed");
+        }
         zaulinte_monitor *holds(const char *call, from where) const {
             where.tell();
             if (!is) throw refused(ZAULINTE_NOT_INSIDE, std::string(call) + " by place " + std::to_string(number));
@@ -234,12 +250,16 @@ template <class T, class C, class M = no_conditions> class monitor {
         }
 
       public:
-        inside(const inside &) = delete;
-        inside &operator=(const inside &) = delete;
-        ~inside() {
-            entered.tell();
-            if (is) of->leaves(number);
+        inside(inside &&i) noexcept
+            : of(i.of), number(i.number), is(std::exchange(i.is, false)), entered(i.entered) {}
+        // First the place that this guard had leaves. So don't assign the result of an `enter` of the same monitor.
+        inside &operator=(inside &&i) noexcept {
+            if (this == &i) return *this;
+            ends();
+            of = i.of, number = i.number, is = std::exchange(i.is, false), entered = i.entered;
+            return *this;
         }
+        ~inside() { ends(); }
         T *operator->() { return &reaches("->", entered); }
         T &operator*() { return reaches("*", entered); }
 
@@ -283,9 +303,9 @@ template <class T, class C, class M = no_conditions> class monitor {
 
         // Returns true if a place waits on the condition (a notified place doesn't).
         template <class E> bool queue(E c, from where = from::here()) {
-            std::uint64_t some = zaulinte_queue(holds("queue", where), number, at(c));
-            must(some > 1 ? some : 0, "queue", number, c);
-            return some == 1;
+            bool waits = false;
+            must(zaulinte_queue(holds("queue", where), number, at(c), &waits), "queue", number, c);
+            return waits;
         }
         // Returns the number of places that wait on the condition.
         template <class E> std::uint64_t count(E c, from where = from::here()) {
@@ -295,9 +315,10 @@ template <class T, class C, class M = no_conditions> class monitor {
         }
         // Returns the priority of the place that a signal would resume, or nothing if no place waits.
         template <class E> std::optional<std::uint64_t> first(E c, from where = from::here()) {
-            std::uint64_t priority = 0, some = zaulinte_first(holds("first", where), number, at(c), &priority);
-            must(some > 1 ? some : 0, "first", number, c);
-            return some ? std::optional<std::uint64_t>(priority) : std::nullopt;
+            bool waits = false;
+            std::uint64_t priority = 0;
+            must(zaulinte_first(holds("first", where), number, at(c), &waits, &priority), "first", number, c);
+            return waits ? std::optional<std::uint64_t>(priority) : std::nullopt;
         }
     };
 
@@ -307,14 +328,13 @@ template <class T, class C, class M = no_conditions> class monitor {
         must(zaulinte_enter(&m, number), "enter", number);
         return inside(this, number, where);
     }
-    // Lets the place with this number enter if the monitor is free at this moment, else returns null.
-    [[nodiscard]] std::unique_ptr<inside> try_enter(unsigned number, from where = from::here()) {
-        std::unique_ptr<inside> in(new inside(this, number, where));
+    // Lets the place with this number enter if the monitor is free at this moment, else returns nothing.
+    [[nodiscard]] std::optional<inside> try_enter(unsigned number, from where = from::here()) {
         where.tell();
         std::uint64_t code = zaulinte_try_enter(&m, number);
-        in->is = code == 0;
-        must(code == ZAULINTE_NOT_FREE ? 0 : code, "try_enter", number);
-        return in->is ? std::move(in) : nullptr;
+        if (code == ZAULINTE_NOT_FREE) return std::nullopt;
+        must(code, "try_enter", number);
+        return inside(this, number, where);
     }
 };
 
@@ -329,7 +349,7 @@ template <class M> class place {
     place &operator=(const place &) = delete;
     place(place &&p) noexcept : of(std::exchange(p.of, nullptr)), number(p.number) {}
     [[nodiscard]] typename M::inside enter(from where = from::here()) { return monitor().enter(number, where); }
-    [[nodiscard]] std::unique_ptr<typename M::inside> try_enter(from where = from::here()) {
+    [[nodiscard]] std::optional<typename M::inside> try_enter(from where = from::here()) {
         return monitor().try_enter(number, where);
     }
 
@@ -337,6 +357,101 @@ template <class M> class place {
     M &monitor() {
         if (!of) throw refused(ZAULINTE_NO_PLACE, "a place that was moved from");
         return *of;
+    }
+};
+
+// A group of places of one monitor, which threads borrow: `group takers{m, 0, 60};` has the places 0 to 59. So more
+// threads than places may use the monitor. A thread that waits keeps its place. So threads that signal need a group of
+// their own: else all places may wait, and no thread that would signal gets one. By the number of such a place nobody
+// enters. A group outlives its guards, and is destroyed before its monitor.
+template <class M> class group {
+    zaulinte_group g{};
+    M &of;
+    // A borrowed place. Its destructor gives the place back.
+    class loan {
+        group *lender;
+        std::uint32_t lent;
+        void ends() noexcept {
+            group *to = std::exchange(lender, nullptr);
+            std::uint64_t code = to ? zaulinte_give_back(&to->g, lent) : 0;
+            if (code) terminates(to->of.m, code, "place " + std::to_string(lent) + " is given back to its group");
+        }
+
+      protected:
+        friend class group;
+        loan(group *by, std::uint32_t k) noexcept : lender(by), lent(k) {}
+        loan(loan &&l) noexcept : lender(std::exchange(l.lender, nullptr)), lent(l.lent) {}
+        loan &operator=(loan &&l) noexcept {
+            if (this == &l) return *this;
+            ends();
+            lender = std::exchange(l.lender, nullptr), lent = l.lent;
+            return *this;
+        }
+        ~loan() { ends(); }
+    };
+    static void must(std::uint64_t code, const char *call) {
+        if (code) throw refused(code, call);
+    }
+
+  public:
+    // Makes a group of the places `first` to first + count - 1. Make it before threads borrow of any group of the
+    // monitor. Throws `refused`: 109 there are no such places, 112 another group has one of them.
+    group(M &m, unsigned first, unsigned count) : of(m) {
+        std::uint64_t code = zaulinte_group_make(&g, &m.m, first, count);
+        if (code) throw refused(code, "a group of " + std::to_string(count) + " places from " + std::to_string(first));
+    }
+    group(const group &) = delete;
+    group &operator=(const group &) = delete;
+    // Frees the group. If a place is borrowed, the program is terminated.
+    ~group() {
+        if (std::uint64_t code = zaulinte_group_free(&g)) terminates(of.m, code, "a group is destroyed");
+    }
+
+    // A guard of a borrowed place, with the calls of `monitor::inside`. Its destructor leaves, and then gives the place
+    // back. It can be moved, as `monitor::inside`.
+    class inside : loan, public M::inside { // in this order: the last base is destroyed first
+        friend class group;
+        inside(loan &&l, typename M::inside &&in) noexcept : loan(std::move(l)), M::inside(std::move(in)) {}
+
+      public:
+        inside(inside &&) = default;
+        inside &operator=(inside &&i) noexcept {
+            M::inside::operator=(std::move(i));
+            loan::operator=(std::move(i));
+            return *this;
+        }
+    };
+    // A borrowed place, with the calls of `place`. Its destructor gives the place back.
+    class attached : loan, public place<M> {
+        friend class group;
+        explicit attached(loan &&l) noexcept : loan(std::move(l)), place<M>(this->lender->of, this->lent) {}
+    };
+
+    // Borrows a place and enters by it. Blocks until a place is free, and then until it can enter.
+    [[nodiscard]] inside enter(from where = from::here()) {
+        loan mine = borrow();
+        auto in = of.enter(mine.lent, where);
+        return inside(std::move(mine), std::move(in));
+    }
+    // Borrows a place and enters by it, if a place and the monitor are free at this moment; else returns nothing.
+    [[nodiscard]] std::optional<inside> try_enter(from where = from::here()) {
+        std::uint32_t number = 0;
+        std::uint64_t code = zaulinte_try_borrow(&g, &number);
+        if (code == ZAULINTE_NOT_FREE) return std::nullopt;
+        must(code, "try_borrow");
+        loan mine(this, number);
+        auto in = of.try_enter(number, where);
+        if (!in) return std::nullopt;
+        return inside(std::move(mine), std::move(*in));
+    }
+    // Borrows a place for as long as the returned object lives. Blocks until a place is free.
+    [[nodiscard]] attached attach() { return attached(borrow()); }
+
+  private:
+    loan borrow() {
+        std::uint32_t number = 0;
+        must(zaulinte_borrow(&g, &number), "borrow");
+        return loan(this, number);
     }
 };
 } // namespace zaulinte

@@ -40,6 +40,10 @@ void ignores(monitor &m) { m.try_enter(0); }
 void ignores(place &p) { p.enter(); }
 #elif MUST_NOT_BUILD == 9 // says: ignoring return value
 void ignores(place &p) { p.try_enter(); }
+#elif MUST_NOT_BUILD == 10 // says: cannot \(convert\|initialize\)
+void exchanges(monitor &m) { (void)m.enter(store::may::put); }
+#elif MUST_NOT_BUILD == 11 // says: no matching function for call to.*at
+void exchanges(inside &in) { in.wait(3); }
 #endif
 
 template <class E, class = void> struct can_signal : std::false_type {};
@@ -52,10 +56,14 @@ using hoare = monitor::condition_type;
 using mesa = monitor::mesa_condition_type;
 static_assert(can_signal<hoare>::value && !can_signal<mesa>::value && !can_signal<int>::value);
 static_assert(can_notify<mesa>::value && !can_notify<hoare>::value && std::is_same_v<monitor::data_type, store>);
-template <class T> constexpr bool moves = std::is_move_constructible_v<T> || std::is_move_assignable_v<T>;
-static_assert(!moves<monitor> && !moves<inside> && !std::is_convertible_v<unsigned, monitor>);
-static_assert(std::is_nothrow_move_constructible_v<place>);
-static_assert(!std::is_copy_constructible_v<place> && !std::is_move_assignable_v<place>);
+using group = zaulinte::group<monitor>;
+template <class T> constexpr bool copies = std::is_copy_constructible_v<T> || std::is_copy_assignable_v<T>;
+template <class T> constexpr bool is_made_by_move = std::is_nothrow_move_constructible_v<T> && !copies<T>;
+template <class T> constexpr bool moves = is_made_by_move<T> && std::is_nothrow_move_assignable_v<T>;
+static_assert(!std::is_move_constructible_v<monitor> && !std::is_move_constructible_v<group>);
+static_assert(!std::is_move_assignable_v<monitor> && !std::is_move_assignable_v<group>);
+static_assert(moves<inside> && moves<group::inside> && is_made_by_move<place> && is_made_by_move<group::attached>);
+static_assert(!std::is_move_assignable_v<place> && !std::is_convertible_v<unsigned, monitor>);
 static_assert(std::is_base_of_v<std::logic_error, zaulinte::refused>);
 static_assert(zaulinte_names(zaulinte::no_conditions{}).count() == 0);
 
@@ -118,12 +126,9 @@ static void refusals() {
     place moved(m, 1), mine(std::move(moved));
     is_refused("a place that was moved from", no_place, [&] { (void)moved.enter(); });
     is_refused("enter by place 2", no_place, [&] { (void)m.enter(2); });
-    std::unique_ptr<inside> in;
-    try {
-        fails_once = true, in = m.try_enter(0);
-    } catch (const std::bad_alloc &) {
-    }
-    is(!in && (in = mine.try_enter()) && !m.try_enter(0)); // place 0 didn't enter
+    fails_once = true;
+    std::optional<inside> in = mine.try_enter();
+    is(in && !m.try_enter(0) && std::exchange(fails_once, false)); // neither has allocated
     is_refused("try_enter by place 1", not_outside, [&] { (void)m.try_enter(1); });
     std::thread([&] {
         is_refused("signal by place 1 on condition take", not_outside, [&] { in->signal(store::may::take); });
@@ -131,8 +136,27 @@ static void refusals() {
     }).join();
     for (const call &c : calls)
         if (c.has_condition) is_refused(c.name + " by place 1 on condition 3", no_condition, [&] { c.on(*in); });
-    in->leave(); // it was inside after each refusal
+    inside other = std::move(*in); // it was inside after each refusal
     for (const call &c : calls) is_refused(c.name + " by place 1", not_inside, [&] { c.on(*in); });
+    in.reset();
+    is(other->items == 0 && !m.try_enter(0));
+    other.leave();
+    is_refused("leave by place 1", not_inside, [&] { other.leave(); });
+}
+// A guard of one of two monitors is assigned to one of the other, of which the place leaves.
+static void assigned() {
+    monitor one(2), two(2);
+    auto in = one.enter(0);
+    in->items = 1;
+    {
+        auto other = two.enter(0);
+        other->items = 2;
+        inside &same = other = std::move(in);
+        is(other->items == 1 && two.try_enter(0) && !one.try_enter(1));
+        other = std::move(same);
+        is(other->items == 1);
+    }
+    is(one.try_enter(0).has_value());
 }
 // A recording, in the file `path`, is the acts since `record`.
 static void recorded(const std::string &path) {
@@ -208,11 +232,13 @@ static void tested(const char *fault) {
 int main(int argc, char **argv) {
     const char *fault = argc > 1 ? argv[1] : "none";
     refusals();
+    assigned();
     limits();
     by_priority();
     recorded(argv[0] + std::string(".script"));
     tested(fault);
     std::optional<monitor> m(std::in_place, 1u);
+    m->name("named");
     auto in = m->try_enter(0);
     // Both terminate the program: the monitor is destroyed with a place inside; another thread lets that place leave.
     if (!std::strcmp(fault, "destroyed")) m.reset();

@@ -20,7 +20,7 @@ static bool is_rung(zaulinte_bell *b) { return atomic_load(&b->word) >= RUNG; }
 #include "zaulinte_dump.h"
 #include "zaulinte_checks.h"
 /* Returns why the number isn't that of a place, or 0. */
-static uint64_t no_such_place(zaulinte_monitor *m, uint32_t place) {
+static inline uint64_t no_such_place(zaulinte_monitor *m, uint32_t place) {
     uint32_t places = atomic_load_explicit(&m->places, memory_order_relaxed); /* written by `make` and `free` alone */
     if (place < places) return 0;
     return places ? ZAULINTE_NO_PLACE : ZAULINTE_NO_BOOK;
@@ -48,7 +48,7 @@ static uint64_t unclaim(zaulinte_monitor *m, uint32_t place, uint64_t code) {
     return code;
 }
 /* Returns why the calling thread can't act by the place, or 0: it has claimed it, so the place is inside. */
-static uint64_t may_act(zaulinte_monitor *m, uint32_t place) {
+static inline uint64_t may_act(zaulinte_monitor *m, uint32_t place) {
     uint64_t refused = no_such_place(m, place);
     if (refused) return refused;
     /* relaxed: it is the thread's own number only if the thread's own claim wrote it last */
@@ -67,7 +67,7 @@ static void ring(zaulinte_bell *b, uint32_t how) {
     if (atomic_exchange(&b->word, how) == ASLEEP) port_wake_one(b);
 }
 /* Wakes one of the threads that sleep on the bell of an entrance, or of a group. */
-static void wake_sleeper(zaulinte_bell *b) {
+static inline void wake_sleeper(zaulinte_bell *b) {
     /* sequentially consistent, as the step before it: docs/WAKING.md */
     if (atomic_load(&b->word) == ASLEEP) ring(b, AWAKE);
 }

@@ -187,6 +187,7 @@ static bool acts(char letter) {
 }
 void x_run(uint32_t thread, uint32_t place, const char *script) {
     bool is_inside = false;
+    uint32_t outer = place; /* the place that the thread borrowed before */
     (void)thread;
     for (const char *c = script; *c; c++) {
         uint32_t condition = (uint32_t)(c[1] - '0');
@@ -194,8 +195,8 @@ void x_run(uint32_t thread, uint32_t place, const char *script) {
         if (*c == '@') x_await(s.said, 1);
         else if (*c == 'f') frees();
         else if (*c == 'F') CHECK(zaulinte_group_free(&s.group[condition]), ZAULINTE_IN_USE);
-        else if (*c == 'r') gives_back(place);
-        else if (strchr("gh", *c) && !borrows(*c, condition, &place)) return;
+        else if (*c == 'r') gives_back(place), place = outer;
+        else if (strchr("gh", *c) && (outer = place, !borrows(*c, condition, &place))) return;
         else if (strchr("gh", *c)) continue;
         else if (strchr("etE", *c)) is_inside = enters(place, *c);
         else if (strchr("lpP", *c)) is_inside = leaves(place, *c, condition);

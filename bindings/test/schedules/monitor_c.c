@@ -194,7 +194,7 @@ void x_run(uint32_t thread, uint32_t place, const char *script) {
         if (*c == ' ' || (*c >= '0' && *c <= '9')) continue;
         if (*c == '@') x_await(s.said, 1);
         else if (*c == 'f') frees();
-        else if (*c == 'F') CHECK(zaulinte_group_free(&s.group[condition]), ZAULINTE_IN_USE);
+        else if (*c == 'G') CHECK(zaulinte_group_free(&s.group[condition]), ZAULINTE_IN_USE);
         else if (*c == 'r') gives_back(place), place = outer;
         else if (strchr("gh", *c) && (outer = place, !borrows(*c, condition, &place))) return;
         else if (strchr("gh", *c)) continue;

@@ -5,7 +5,7 @@
  *   ?C wait on condition C if there is no item; *C wait while there is none; wC wait
  *   + one item more; - one less
  *   ! say that it is inside; @ wait until a thread said so; f free the monitor, again until that isn't refused
- *   gG borrow a place of group G; hG try to, and end if none is free; r give it back; FG is refused to free group G
+ *   gG borrow a place of group G; hG try to, and end if none is free; r give it back; GG is refused to free group G
  * No program can deadlock by itself. */
 #include "explore.h"
 
@@ -38,7 +38,7 @@ const struct x_program x_programs[] = {
     {"lend3", {"-:g0 e l r", "-:g0 e l r", "-:g0 e l r"}, 1, 1, 0, "1"},
     {"lend3_again", {"-:g0 r g0 r", "-:g0 r g0 r", "-:g0 r"}, 1, 1, 0, "1"},
     {"lend_try3", {"-:h0 e l r", "-:g0 e l r", "-:g0 r"}, 1, 1, 0, "1"},
-    {"lend_two3", {"-:g0 g0 ! r F0 r", "-:@ g0 e ?0 - l r", "-:@ g0 e + p0 r"}, 2, 1, 0, "2"},
+    {"lend_two3", {"-:g0 g0 ! r G0 r", "-:@ g0 e ?0 - l r", "-:@ g0 e + p0 r"}, 2, 1, 0, "2"},
     {"lend_takers3", {"-:g0 e ?0 - l r", "-:g0 e ?0 - l r", "-:g1 e + s0 l e + p0 r"}, 2, 1, 0, "11"},
     {"lend4", {"-:g0 r", "-:g0 r", "-:h0 r", "-:g0 r"}, 1, 1, 0, "1"},
     {"lend_two4", {"-:g0 r", "-:g0 r", "-:g0 r", "-:g0 r"}, 2, 1, 0, "2"},

@@ -38,6 +38,9 @@ static uint64_t access(struct op op) {
     u##bits __tsan_atomic##bits##_fetch_sub(volatile u##bits *at, u##bits by, int order) { \
         return (u##bits)ACCESS(ADD, (u##bits)-by, 0, order, 0); \
     } \
+    u##bits __tsan_atomic##bits##_fetch_or(volatile u##bits *at, u##bits by, int order) { \
+        return (u##bits)ACCESS(OR, by, 0, order, 0); \
+    } \
     u##bits __tsan_atomic##bits##_compare_exchange_val(volatile u##bits *at, u##bits from, u##bits to, int order, \
                                                        int fails) { \
         return (u##bits)ACCESS(CAS, to, from, order, fails); \

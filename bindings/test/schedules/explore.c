@@ -1,13 +1,13 @@
 /* Explores all schedules of small programs on the running monitor; README.md says how.
  *
- *   explore [weak [loose]] [early=N] [fine=SITES] [states=N] [first] [show] [script=FILE] [PROGRAM..]
+ *   explore [weak [loose]] [early=N] [fine=SITES] [states=N] [groups=N..] [first] [show] [script=FILE] [PROGRAM..]
  *   explore .. replay=ACTS [script=FILE] PROGRAM
  *   explore names
  *
  * weak: the memory is weak; loose: so is the test by which a thread falls asleep. early: so many sleeps return early;
  * without it any number. fine: stops at the instructions of this file. first: ends at the first fault. show: draws a
  * shortest schedule to a fault, and script writes its acts to FILE. A program is a name, or its threads, as in
- * "0:e l;1:e l". Status 1: there is a fault. */
+ * "0:e l;1:e l", with places of these groups besides. Status 1: there is a fault. */
 #define _GNU_SOURCE
 #include "world.h"
 #include <stdio.h>
@@ -18,9 +18,9 @@
 extern const struct x_program x_programs[];
 uint32_t early = 255;
 static bool is_shown;
-static const char *replayed, *script;
+static const char *replayed, *script, *groups;
 static const char *const said[] = {
-    "starts", "loads", "stores", "swaps", "adds", "compares and swaps", "tests and sleeps on", "makes a step",
+    "starts", "loads", "stores", "swaps", "adds", "sets bits", "compares and swaps", "tests and sleeps on", "makes a step",
     "sleeps on", "wakes one at", "locks", "unlocks", "waits and unlocks", "waits", "locks again", "signals",
     "waits for another", "accesses", "is done"};
 
@@ -38,7 +38,7 @@ static void show_act(uint32_t k, uint32_t choice) {
     uint64_t was = make(k, choice);
     printf(choice == EARLY ? "    %de" : choice ? "    %d.%d" : "    %d", k, choice);
     printf("\t%*sthread %d %s %s", 4 * (int)k, "", k, op.what ? op.what : said[op.kind], name_of(&op));
-    if (op.kind == STORE || op.kind == SWAP || op.kind == ADD) printf(" <- %d", (int)op.value);
+    if (op.kind >= STORE && op.kind <= OR) printf(" <- %d", (int)op.value);
     if (op.kind == CAS) printf(" %d -> %d", (int)op.expected, (int)op.value);
     if (op.kind == SLEEP) printf(" while %d", (int)op.expected);
     if (is_access(op.kind) && op.kind != STORE) printf(": was %d", (int)was);
@@ -112,7 +112,8 @@ static bool explore(const struct x_program *p) {
 }
 /* A program of its own scripts, "0:e l;1:e l". */
 static bool explore_own(char *scripts) {
-    struct x_program own = {scripts, {NULL}, 1, 1, 1};
+    struct x_program own = {scripts, {NULL}, 1, 1, 1, groups};
+    for (const char *c = groups; c && *c; c++) own.places += (uint32_t)(*c - '0');
     char *script = strdup(scripts);
     for (uint32_t k = 0; script && k < X_THREADS; k++) {
         own.script[k] = script;
@@ -147,6 +148,7 @@ static bool takes(const char *word) {
     if (!strncmp(word, "early=", 6)) early = (uint32_t)atoi(is + 1);
     else if (!strncmp(word, "states=", 7)) most = (uint32_t)atoi(is + 1);
     else if (!strncmp(word, "replay=", 7)) replayed = is + 1;
+    else if (!strncmp(word, "groups=", 7)) groups = is + 1;
     else if (!strncmp(word, "script=", 7)) script = is + 1, is_shown = true;
     else if (strncmp(word, "fine=", 5) || !x_fine(is + 1)) die(word);
     return true;

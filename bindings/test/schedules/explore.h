@@ -7,10 +7,12 @@
 
 enum { X_THREADS = 4, X_PLACES = 4, X_NOBODY = 64 };
 
-/* A program: its threads' scripts, each with the place by which it acts ("0:e l"). scripts.c explains the letters. */
+/* A program: its threads' scripts, each with the place by which it acts ("0:e l"), or a dash if it borrows one. programs.c
+ * explains the letters. `groups` has a digit for each group: "12" are place 0, and places 1 and 2. */
 struct x_program {
     const char *name, *script[X_THREADS];
     uint32_t places, hoare, mesa;
+    const char *groups;
 };
 
 /* The monitor under test: one of these three is linked, monitor_c.c or the crate's. */

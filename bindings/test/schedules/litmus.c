@@ -8,21 +8,21 @@
 static struct shared { _Atomic uint32_t x, y; uint32_t got[X_THREADS][2]; } *s;
 static const char *name;
 const struct x_program x_programs[] = {
-    {"sb_relaxed_seen", {"0:Wx rx", "0:wx Rx"}, 1, 1, 0},
-    {"sb_acqrel_seen", {"0:Wr ra", "0:wr Ra"}, 1, 1, 0},
-    {"sb_mixed_seen", {"0:Ws ra", "0:ws Rs"}, 1, 1, 0},
-    {"sb_sc_never", {"0:Ws rs", "0:ws Rs"}, 1, 1, 0},
-    {"mp_relaxed_seen", {"0:Wx wr", "0:rx Rx"}, 1, 1, 0},
-    {"mp_relaxed2_seen", {"0:Wx wx", "0:ra Rx"}, 1, 1, 0},
-    {"mp_acqrel_never", {"0:Wx wr", "0:ra Rx"}, 1, 1, 0},
-    {"mp_sc_never", {"0:Ws ws", "0:rs Rs"}, 1, 1, 0},
-    {"corr_never", {"0:Wx", "0:Rx Rx"}, 1, 1, 0},
-    {"iriw_acquire_seen", {"0:Wr", "0:wr", "0:Ra ra", "0:ra Ra"}, 1, 1, 0},
-    {"iriw_sc_never", {"0:Ws", "0:ws", "0:Rs rs", "0:rs Rs"}, 1, 1, 0},
-    {"twice_relaxed_seen", {"0:Wx w2x", "0:wx W2x"}, 1, 1, 0},
-    {"twice_sc_never", {"0:Ws w2s", "0:ws W2s"}, 1, 1, 0},
-    {"swap_never", {"0:Sx", "0:Sx", "0:Sx"}, 1, 1, 0},
-    {NULL, {NULL}, 0, 0, 0}};
+    {"sb_relaxed_seen", {"0:Wx rx", "0:wx Rx"}, 1, 1, 0, NULL},
+    {"sb_acqrel_seen", {"0:Wr ra", "0:wr Ra"}, 1, 1, 0, NULL},
+    {"sb_mixed_seen", {"0:Ws ra", "0:ws Rs"}, 1, 1, 0, NULL},
+    {"sb_sc_never", {"0:Ws rs", "0:ws Rs"}, 1, 1, 0, NULL},
+    {"mp_relaxed_seen", {"0:Wx wr", "0:rx Rx"}, 1, 1, 0, NULL},
+    {"mp_relaxed2_seen", {"0:Wx wx", "0:ra Rx"}, 1, 1, 0, NULL},
+    {"mp_acqrel_never", {"0:Wx wr", "0:ra Rx"}, 1, 1, 0, NULL},
+    {"mp_sc_never", {"0:Ws ws", "0:rs Rs"}, 1, 1, 0, NULL},
+    {"corr_never", {"0:Wx", "0:Rx Rx"}, 1, 1, 0, NULL},
+    {"iriw_acquire_seen", {"0:Wr", "0:wr", "0:Ra ra", "0:ra Ra"}, 1, 1, 0, NULL},
+    {"iriw_sc_never", {"0:Ws", "0:ws", "0:Rs rs", "0:rs Rs"}, 1, 1, 0, NULL},
+    {"twice_relaxed_seen", {"0:Wx w2x", "0:wx W2x"}, 1, 1, 0, NULL},
+    {"twice_sc_never", {"0:Ws w2s", "0:ws W2s"}, 1, 1, 0, NULL},
+    {"swap_never", {"0:Sx", "0:Sx", "0:Sx"}, 1, 1, 0, NULL},
+    {NULL, {NULL}, 0, 0, 0, NULL}};
 void x_make(const struct x_program *p) { s = x_room(sizeof *s, 8), name = p->name; }
 uint32_t x_place_of(void *handle) { return (void)handle, X_NOBODY; }
 const char *x_name_of(void *at) { return at == (void *)&s->x ? "X" : at == (void *)&s->y ? "Y" : NULL; }

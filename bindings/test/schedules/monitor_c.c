@@ -5,9 +5,10 @@
 
 static struct shared {
     zaulinte_monitor *m;
-    uint32_t *items, *said, *claims;
+    uint32_t *items, *said, *claims, *lent;
+    zaulinte_group *group;
 } s;
-static uint32_t places;
+static uint32_t places, groups;
 static size_t size_of_monitor(void) { return offsetof(zaulinte_monitor, place) + places * sizeof(zaulinte_place); }
 #define CHECK(call, code) ((call) == (code) ? (void)0 : x_fail("the call " #call " doesn't return " #code))
 
@@ -18,12 +19,22 @@ static bool has_item(void *items, uint32_t condition, uint64_t priority, const z
 }
 static bool is_few(void *items) { return *(uint32_t *)items <= 2 * places; }
 #endif
+static void make_groups(const char *sizes) {
+    uint32_t first = 0;
+    s.lent = x_room(X_PLACES * sizeof(uint32_t), 8), s.group = x_room(groups * sizeof(zaulinte_group), 64);
+    for (uint32_t k = 0, size; k < groups; k++, first += size) {
+        size = (uint32_t)(sizes[k] - '0');
+        if (zaulinte_group_make(&s.group[k], s.m, first, size)) __builtin_trap();
+    }
+}
 void x_make(const struct x_program *p) {
     s.items = x_room(sizeof(uint32_t), 4), s.said = x_room(sizeof(uint32_t), 4);
     s.claims = x_room(X_PLACES * sizeof(uint32_t), 8);
     places = p->places;
     s.m = x_room(size_of_monitor(), 64);
     if (zaulinte_make(s.m, p->places, p->hoare + p->mesa, p->mesa)) __builtin_trap();
+    groups = p->groups ? (uint32_t)strlen(p->groups) : 0;
+    if (groups) make_groups(p->groups);
 #ifdef ZAULINTE_CHECKS
     zaulinte_check(s.m, is_few, NULL, has_item, s.items);
 #endif
@@ -49,6 +60,11 @@ const char *x_name_of(void *at) {
         if (at == (void *)&s.m->place[k].thread) return claims[k];
         if (at == (void *)&s.m->place[k].handle) return "";
     }
+    for (uint32_t k = 0; k < groups; k++) {
+        if (at == (void *)&s.group[k].bell.word) return "the group's word";
+        if (at == (void *)&s.group[k].sleepers) return "the group's number of sleepers";
+        if (at == (void *)&s.group[k].free) return "the group's free places";
+    }
     return NULL;
 }
 #ifdef RECORDS
@@ -65,6 +81,14 @@ static const char *compare_recording(void) {
     return strcmp(is, owed) ? "the recording differs from the acts" : NULL;
 }
 #endif
+static const char *finish_groups(void) {
+    for (uint32_t k = 0; k < groups; k++) {
+        if (s.group[k].sleepers) return "all threads ended, and one is counted as a group's sleeper";
+        if (s.group[k].bell.word == 1) return "all threads ended, and a group's word says that one sleeps";
+        if (zaulinte_group_free(&s.group[k])) return "all threads ended, and a group can't be freed";
+    }
+    return NULL;
+}
 const char *x_finished(void) {
     if (x_inside() != X_NOBODY) return "all threads ended, and a place is inside";
     if (s.m->sleepers) return "all threads ended, and one is counted as a sleeper";
@@ -73,9 +97,9 @@ const char *x_finished(void) {
         if (s.m->place[k].bell.word == 1) return "all threads ended, and a place's word says that one sleeps";
     }
 #ifdef RECORDS
-    return s.m->places ? compare_recording() : NULL;
+    if (s.m->places) return compare_recording();
 #endif
-    return NULL;
+    return finish_groups();
 }
 
 /* Each of these makes the call of a letter, and returns true if the place is inside then. */
@@ -136,6 +160,22 @@ static void frees(void) {
     CHECK(zaulinte_free(s.m), ZAULINTE_NO_BOOK);
     x_gone(s.m, size_of_monitor());
 }
+/* Borrows a place of a group, and returns true; if it only tries to, and none is free, returns false. */
+static bool borrows(char letter, uint32_t group, uint32_t *place) {
+    zaulinte_group *g = &s.group[group];
+    uint64_t code = letter == 'g' ? zaulinte_borrow(g, place) : zaulinte_try_borrow(g, place);
+    if (letter == 'h' && code == ZAULINTE_NOT_FREE) return false;
+    if (code) x_fail("no place is lent");
+    if (!(*place < places && g->all >> *place & 1)) x_fail("another group's place is lent");
+    if (s.lent[*place]++) x_fail("a place is lent to two threads");
+    return true;
+}
+static void gives_back(uint32_t place) {
+    zaulinte_group *g = s.group;
+    while (!(g->all >> place & 1)) g++;
+    s.lent[place] = 0;
+    CHECK(zaulinte_give_back(g, place), 0);
+}
 /* Acts on the data while the place is inside, or returns false. */
 static bool acts(char letter) {
     switch (letter) {
@@ -147,12 +187,17 @@ static bool acts(char letter) {
 }
 void x_run(uint32_t thread, uint32_t place, const char *script) {
     bool is_inside = false;
+    uint32_t outer = place; /* the place that the thread borrowed before */
     (void)thread;
     for (const char *c = script; *c; c++) {
         uint32_t condition = (uint32_t)(c[1] - '0');
         if (*c == ' ' || (*c >= '0' && *c <= '9')) continue;
         if (*c == '@') x_await(s.said, 1);
         else if (*c == 'f') frees();
+        else if (*c == 'G') CHECK(zaulinte_group_free(&s.group[condition]), ZAULINTE_IN_USE);
+        else if (*c == 'r') gives_back(place), place = outer;
+        else if (strchr("gh", *c) && (outer = place, !borrows(*c, condition, &place))) return;
+        else if (strchr("gh", *c)) continue;
         else if (strchr("etE", *c)) is_inside = enters(place, *c);
         else if (strchr("lpP", *c)) is_inside = leaves(place, *c, condition);
         else if (strchr("?*w", *c)) is_inside = waits(place, *c, condition);

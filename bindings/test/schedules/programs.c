@@ -5,6 +5,7 @@
  *   ?C wait on condition C if there is no item; *C wait while there is none; wC wait
  *   + one item more; - one less
  *   ! say that it is inside; @ wait until a thread said so; f free the monitor, again until that isn't refused
+ *   gG borrow a place of group G; hG try to, and end if none is free; r give it back; GG is refused to free group G
  * No program can deadlock by itself. */
 #include "explore.h"
 
@@ -33,4 +34,14 @@ const struct x_program x_programs[] = {
     {"free_waits", {"0:e ! ?0 - l", "1:@ e + s0 l f"}, 2, 1, 0},
     {"signal4", {"0:e + s0 l", "1:e + p0", "2:e ?0 - l", "3:e ?0 - l"}, 4, 1, 0},
     {"chain4", {"0:e + s0 l", "1:e ?0 s0 l", "2:e ?0 s0 l", "3:e ?0 s0 l"}, 4, 1, 0},
-    {NULL, {NULL}, 0, 0, 0}};
+    {"lend2", {"-:g0 e l r", "-:g0 e l r"}, 1, 1, 0, "1"},
+    {"lend3", {"-:g0 e l r", "-:g0 e l r", "-:g0 e l r"}, 1, 1, 0, "1"},
+    {"lend3_again", {"-:g0 r g0 r", "-:g0 r g0 r", "-:g0 r"}, 1, 1, 0, "1"},
+    {"lend_try3", {"-:h0 e l r", "-:g0 e l r", "-:g0 r"}, 1, 1, 0, "1"},
+    {"lend_two3", {"-:g0 g0 ! r G0 r", "-:@ g0 e ?0 - l r", "-:@ g0 e + p0 r"}, 2, 1, 0, "2"},
+    {"lend_takers3", {"-:g0 e ?0 - l r", "-:g0 e ?0 - l r", "-:g1 e + s0 l e + p0 r"}, 2, 1, 0, "11"},
+    {"lend4", {"-:g0 r", "-:g0 r", "-:h0 r", "-:g0 r"}, 1, 1, 0, "1"},
+    {"lend_two4", {"-:g0 r", "-:g0 r", "-:g0 r", "-:g0 r"}, 2, 1, 0, "2"},
+    {"lend_both4", {"-:g0 g0 ! r r", "-:@ g0 e ?0 - l r", "-:@ g0 e + p0 r", "-:@ g0 r"}, 2, 1, 0, "2"},
+    {"lend_takers4", {"-:g0 e ?0 - l r", "-:g0 e ?0 - l r", "-:g1 e + s0 l r", "-:g1 e + p0 r"}, 2, 1, 0, "11"},
+    {NULL, {NULL}, 0, 0, 0, NULL}};

@@ -82,9 +82,6 @@ static void put_after(struct thread *t, uint32_t i, uint32_t m, const struct op 
     *at = (struct message){value, view, op->kind != STORE};
     be_sequential(i, m + 1, op->order);
 }
-static bool writes(const struct op *op, uint64_t was) {
-    return op->kind == STORE || op->kind == SWAP || op->kind == ADD || (op->kind == CAS && was == op->expected);
-}
 /* Returns the message of the word that choice number `choice` of the act takes, from the latest on, or MESSAGES. */
 static uint32_t message_of(const struct thread *t, uint32_t i, uint32_t choice) {
     const struct op *op = &t->op;
@@ -113,7 +110,7 @@ void do_weakly(struct thread *t, uint32_t choice) {
         return;
     }
     if (op->kind != STORE) read_message(t, i, m, op->kind == CAS && !writes(op, was) ? op->fails : op->order);
-    if (writes(op, was)) put_after(t, i, m, op, op->kind == ADD ? was + op->value : op->value);
+    if (writes(op, was)) put_after(t, i, m, op, written(op, was));
 }
 
 /* Returns the first message of a word that thread k may still take. */

@@ -71,11 +71,15 @@ uint64_t memory(const void *at, uint8_t size) {
     memcpy(&value, at, size);
     return value;
 }
+bool writes(const struct op *op, uint64_t was) {
+    return (op->kind >= STORE && op->kind <= OR) || (op->kind == CAS && was == op->expected);
+}
+uint64_t written(const struct op *op, uint64_t was) {
+    return op->kind == ADD ? was + op->value : op->kind == OR ? was | op->value : op->value;
+}
 uint64_t do_strongly(struct op *op) {
-    uint64_t was = memory(op->at, op->size), is = op->kind == ADD ? was + op->value : op->value;
-    bool is_expected = was == op->expected;
-    if (op->kind == SLEEP && is_expected) op->kind = SLEEPING;
-    if (op->kind == STORE || op->kind == SWAP || op->kind == ADD || (op->kind == CAS && is_expected))
-        memcpy(op->at, &is, op->size);
+    uint64_t was = memory(op->at, op->size), is = written(op, was);
+    if (op->kind == SLEEP && was == op->expected) op->kind = SLEEPING;
+    if (writes(op, was)) memcpy(op->at, &is, op->size);
     return was;
 }

@@ -6,8 +6,8 @@
 /* WORDS: those that the weak memory keeps. A view knows of each word the latest message, and of the monitor's data and
  * of each place's handle if it knows the latest write. */
 enum { STACK = 16384, ROOM = 16384, WORDS = 26, MESSAGES = 14, DATA = WORDS, HANDLE, VIEWS = HANDLE + X_PLACES };
-enum kind { NEW, LOAD, STORE, SWAP, ADD, CAS, SLEEP, STEP, SLEEPING, WAKE, LOCK, UNLOCK, C_WAIT, C_SLEEPING, RELOCK,
-            C_SIGNAL, AWAIT, TOUCH, DONE };
+enum kind { NEW, LOAD, STORE, SWAP, ADD, OR, CAS, SLEEP, STEP, SLEEPING, WAKE, LOCK, UNLOCK, C_WAIT, C_SLEEPING,
+            RELOCK, C_SIGNAL, AWAIT, TOUCH, DONE };
 enum order { RELAXED, CONSUME, ACQUIRE, RELEASE, ACQ_REL, SEQ_CST };
 /* The choices of an act are 0, 1 and so on: which thread it wakes, which message it reads. EARLY: it returns early. */
 enum { EARLY = 100 };
@@ -78,6 +78,8 @@ struct use *use_of(void *at, uint8_t size);
 bool has_conflict(const struct op *op);
 void free_words(void *from, size_t bytes);
 void forget_words(void);
+bool writes(const struct op *op, uint64_t was);          /* an access to a word that was this */
+uint64_t written(const struct op *op, uint64_t was);
 uint64_t do_strongly(struct op *op);
 uint64_t memory(const void *at, uint8_t size);
 /* weak.c */

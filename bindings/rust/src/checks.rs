@@ -113,6 +113,8 @@ impl<T, C: Condition, M: Condition, P: Port> Inside<'_, T, C, M, P> {
         waiting.firsts[number] = Some(waiting.firsts[number].map_or(priority, |first| first.min(priority)));
         assert!((checks.inv)(self), "`inv` doesn't hold when place {place} waits on {condition:?}");
         assert!((checks.rest)(self, &waiting), "`rest` doesn't hold when place {place} waits on {condition:?}");
+        let (waiters, all) = (waiting.counts.iter().sum::<usize>(), self.place.inner.parking.places());
+        assert!(waiters < all, "all {all} places wait when place {place} waits on {condition:?}: none is left to signal");
     }
 
     #[track_caller]

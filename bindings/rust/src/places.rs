@@ -31,17 +31,17 @@ impl Free {
     fn take(&self) -> Option<usize> {
         let mut free = self.0.load(SeqCst);
         while free != 0 {
-            let bit = 1 << free.trailing_zeros();
-            free = self.0.fetch_and(!bit, SeqCst);
-            if free & bit != 0 {
-                return Some(bit.trailing_zeros() as usize);
+            let others = free & (free - 1);
+            match self.0.compare_exchange(free, others, SeqCst, SeqCst) {
+                Ok(_) => return Some(free.trailing_zeros() as usize),
+                Err(now) => free = now,
             }
         }
         None
     }
 
     fn give_back(&self, index: usize) {
-        self.0.fetch_or(1 << index, SeqCst);
+        self.0.fetch_add(1 << index, SeqCst); // its bit is clear
     }
 
     fn count(&self) -> u32 {

@@ -38,7 +38,7 @@ mod drawn {
     }
 
     macro_rules! drawn {
-        ($name:ident of $number:ty: load $(, $act:ident)*) => {
+        ($name:ident of $number:ty: $($act:ident),*) => {
             pub(crate) struct $name(atomic::$name);
 
             impl $name {
@@ -49,6 +49,16 @@ mod drawn {
                 pub(crate) fn load(&self, order: Ordering) -> $number {
                     may_yield_around(|| self.0.load(order))
                 }
+
+                pub(crate) fn compare_exchange(
+                    &self,
+                    is: $number,
+                    to: $number,
+                    yes: Ordering,
+                    no: Ordering,
+                ) -> Result<$number, $number> {
+                    may_yield_around(|| self.0.compare_exchange(is, to, yes, no))
+                }
                 $(
                     pub(crate) fn $act(&self, operand: $number, order: Ordering) -> $number {
                         may_yield_around(|| self.0.$act(operand, order))
@@ -57,14 +67,8 @@ mod drawn {
             }
         };
     }
-    drawn!(AtomicU32 of u32: load, fetch_add, fetch_sub, swap);
-    drawn!(AtomicU64 of u64: load, fetch_and, fetch_or);
-
-    impl AtomicU32 {
-        pub(crate) fn compare_exchange(&self, is: u32, to: u32, yes: Ordering, no: Ordering) -> Result<u32, u32> {
-            may_yield_around(|| self.0.compare_exchange(is, to, yes, no))
-        }
-    }
+    drawn!(AtomicU32 of u32: fetch_add, fetch_sub, swap);
+    drawn!(AtomicU64 of u64: fetch_add);
 
     // for a port
     impl Deref for AtomicU32 {

@@ -3,7 +3,7 @@ use std::mem::forget;
 use std::panic::{catch_unwind, AssertUnwindSafe};
 use std::sync::atomic::{AtomicBool, AtomicU32, Ordering::SeqCst};
 use std::sync::{Arc, Barrier, Condvar, Mutex};
-use std::thread;
+use std::thread::{self, JoinHandle};
 use std::time::Duration;
 use zaulinte::{conditions, Borrowed, Checks, Monitor, NoConditions, Places, Port, Refused};
 
@@ -15,7 +15,7 @@ type Place<P> = zaulinte::Place<Vec<u32>, When, NoConditions, P>;
 
 const TAKERS: usize = 300;
 const GIVERS: usize = 20;
-const EACH: u32 = 10;
+const EACH: usize = 10;
 
 // Sleeps by std, and counts the threads that fell asleep.
 #[derive(Clone, Default)]
@@ -52,6 +52,17 @@ fn monitor_of<P: Port + Default>(places: usize) -> (Mine<P>, Vec<Place<P>>) {
 
 fn group_of<P: Port + Default>(places: Vec<Place<P>>) -> Group<P> {
     Places::with_port(places, P::default()).unwrap()
+}
+
+// Runs `act` in so many threads, and `meanwhile` in this one. ThreadSanitizer reports false races of std's scope.
+fn in_threads(many: usize, act: impl Fn(usize) + Sync, meanwhile: impl FnOnce()) {
+    let act = &act;
+    // SAFETY: all threads are joined before `act` is dropped, unless `meanwhile` panics, which ends the program
+    let spawn = |k| unsafe { thread::Builder::new().spawn_unchecked(move || act(k)).unwrap() };
+    let threads: Vec<_> = (0..many).map(spawn).collect();
+    meanwhile();
+    let has_panicked = threads.into_iter().map(JoinHandle::join).filter(Result::is_err).count() > 0;
+    assert!(!has_panicked);
 }
 
 // Which places are borrowed: each by one thread.
@@ -100,11 +111,12 @@ fn many_threads_share_few_places<P: Port + Default>(for_takers: usize, for_giver
         (0..10).for_each(|item| give(&mut place, item));
         held.release(place);
     };
-    thread::scope(|s| {
-        (0..TAKERS).for_each(|_| _ = s.spawn(|| (0..EACH).for_each(|_| takes())));
-        (0..GIVERS).for_each(|_| _ = s.spawn(|| (0..TAKERS / GIVERS * EACH as usize / 10).for_each(|_| gives())));
-    });
-    assert_eq!(sum.into_inner(), TAKERS as u32 * EACH / 10 * 45);
+    let works = |thread| match thread {
+        0..GIVERS => (0..TAKERS * EACH / GIVERS / 10).for_each(|_| gives()),
+        _ => (0..EACH).for_each(|_| takes()),
+    };
+    in_threads(GIVERS + TAKERS, works, || ());
+    assert_eq!(sum.into_inner(), (TAKERS * EACH / 10 * 45) as u32);
     assert_eq!(format!("{givers:?}"), format!("Places {{ places: {for_givers}, free: {for_givers}, sleepers: 0 }}"));
     drop((takers, givers));
     assert_eq!(monitor.into_inner().unwrap().unwrap(), []);
@@ -119,13 +131,11 @@ fn sleepers_wake_each_other() {
     let all: Vec<_> = (0..SLEEPERS).map(|_| group.borrow()).collect();
     assert!(group.try_borrow().is_none());
     let all_have_one = Barrier::new(SLEEPERS);
-    thread::scope(|s| {
-        for _ in 0..SLEEPERS {
-            s.spawn(|| {
-                let _place = group.borrow();
-                all_have_one.wait();
-            });
-        }
+    let sleeps = |_| {
+        let _place = group.borrow();
+        all_have_one.wait();
+    };
+    in_threads(SLEEPERS, sleeps, || {
         while (port.asleep.load(SeqCst) as usize) < SLEEPERS {
             thread::yield_now();
         }
@@ -166,13 +176,15 @@ fn groups_are_refused() {
 fn a_group_that_signallers_share_with_waiters_is_found() {
     let (monitor, places) = monitor_of::<Sleeper>(3);
     let group = group_of(places);
-    let waits = || {
+    let said = Mutex::new(vec![]);
+    let waits = |_| {
         let mut place = group.borrow();
         let waited = catch_unwind(AssertUnwindSafe(|| drop(place.enter().unwrap().wait(When::NonEmpty, 0))));
-        waited.err().map(|said| (place.number(), said.downcast::<String>().unwrap()))
+        if let Err(text) = waited {
+            said.lock().unwrap().push((place.number(), text.downcast::<String>().unwrap()));
+        }
     };
-    let said: Vec<_> = thread::scope(|s| {
-        let threads: Vec<_> = (0..3).map(|_| s.spawn(waits)).collect();
+    in_threads(3, waits, || {
         while !monitor.is_poisoned() {
             thread::yield_now();
         }
@@ -180,8 +192,8 @@ fn a_group_that_signallers_share_with_waiters_is_found() {
             let mut place = group.borrow();
             assert!(place.enter().unwrap_err().into_inner().signal_leave(When::NonEmpty));
         }
-        threads.into_iter().filter_map(|thread| thread.join().unwrap()).collect()
     });
+    let said = said.into_inner().unwrap();
     let [(number, text)] = &said[..] else { panic!("{said:?}") };
     assert_eq!(**text, format!("all 3 places wait when place {number} waits on NonEmpty: none is left to signal"));
 }

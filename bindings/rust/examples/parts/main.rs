@@ -175,7 +175,8 @@ impl Store {
     }
 }
 
-/// Waits on two monitors for items that don't come. Returns how late the last wait ended.
+/// Waits on two monitors for items that don't come, beside a wait with a limit that is far. Returns how late the last
+/// wait ended.
 fn waits_end_at_their_limit() -> Duration {
     let clock = LimitClock::new();
     let stores = [Store::new(&clock), Store::new(&clock)];
@@ -185,9 +186,13 @@ fn waits_end_at_their_limit() -> Duration {
         Instant::now().checked_duration_since(deadline).expect("it ended too early")
     };
     thread::scope(|s| {
-        let limits = (0..100).map(|k| (&stores[k % 2], Duration::from_millis(100 - k as u64)));
+        let limits = (0..100).map(|k| (&stores[k % 2], Duration::from_millis(200 - k as u64)));
         let waiters: Vec<_> = limits.map(|(store, limit)| s.spawn(move || waits(store, limit))).collect();
-        waiters.into_iter().map(|waiter| waiter.join().unwrap()).max().unwrap()
+        thread::sleep(Duration::from_millis(50));
+        s.spawn(|| assert!(stores[0].take(Some(Instant::now() + Duration::from_secs(9)))));
+        let late = waiters.into_iter().map(|waiter| waiter.join().unwrap()).max();
+        stores[0].give();
+        late.unwrap()
     })
 }
 

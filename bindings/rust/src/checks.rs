@@ -49,6 +49,9 @@ impl<C: Condition, M: Condition> fmt::Debug for Waiting<C, M> {
 /// the act by which it fails, and poisons the monitor. Nothing is tested in a release build, in a poisoned monitor, or
 /// by a thread that panics. A check that panics itself poisons as well.
 ///
+/// A debug build also panics at the wait by which all places of a monitor would wait: no place is left to signal or
+/// notify, so all would sleep for ever. It does so with any checks, and for a monitor without any.
+///
 /// - `inv` holds always; tested whenever the monitor is released.
 /// - `rest` holds if no place waits without a cause; tested at a leave and at a wait, with the places that wait (the
 ///   place that begins to wait included).
@@ -113,6 +116,9 @@ impl<T, C: Condition, M: Condition, P: Port> Inside<'_, T, C, M, P> {
         waiting.firsts[number] = Some(waiting.firsts[number].map_or(priority, |first| first.min(priority)));
         assert!((checks.inv)(self), "`inv` doesn't hold when place {place} waits on {condition:?}");
         assert!((checks.rest)(self, &waiting), "`rest` doesn't hold when place {place} waits on {condition:?}");
+        let (waiters, all) = (waiting.counts.iter().sum::<usize>(), self.place.inner.parking.places());
+        let is_left = waiters < all;
+        assert!(is_left, "all {all} places wait when place {place} waits on {condition:?}: none is left to signal");
     }
 
     #[track_caller]

@@ -100,6 +100,9 @@ impl<'a, T, C: Condition, M: Condition, P: Port> Inside<'a, T, C, M, P> {
             return false; // it leaves as it is dropped
         }
         self.check_signal(condition);
+        if self.unwinds() {
+            self.poison();
+        }
         self.own().signaller = self.place.seat.number();
         self.place.record(Kind::Pass, number, 0);
         self.place.go_outside(|seat| seat.signal_leave(number));
@@ -165,6 +168,16 @@ impl<T, C: Condition, M: Condition, P: Port> Inside<'_, T, C, M, P> {
         unsafe { &mut *self.place.inner.own.get() }
     }
 
+    /// Returns true if the thread unwinds from a panic that began inside.
+    fn unwinds(&self) -> bool {
+        P::panicking() && !self.panicked
+    }
+
+    /// Poisons the monitor; the step that follows releases that.
+    fn poison(&self) {
+        self.place.inner.poisoned.store(true, Relaxed);
+    }
+
     fn wait_at(&mut self, number: usize, priority: u64) {
         self.note_away(Kind::Wait, Does::Waits, number, priority);
         self.place.inner.vacate();
@@ -215,8 +228,8 @@ struct Leaving<'b, 'a, T, C: Condition, M: Condition, P: Port> {
 
 impl<T, C: Condition, M: Condition, P: Port> Drop for Leaving<'_, '_, T, C, M, P> {
     fn drop(&mut self) {
-        if self.is_at_fault || (P::panicking() && !self.inside.panicked) {
-            self.inside.place.inner.poisoned.store(true, Relaxed); // the step that follows releases it
+        if self.is_at_fault || self.inside.unwinds() {
+            self.inside.poison();
         }
         self.inside.place.leave();
     }

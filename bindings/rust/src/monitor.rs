@@ -82,6 +82,8 @@ pub struct Monitor<T, C, M = NoConditions, P = DefaultPort>(Arc<Inner<T, C, M, P
 /// A place of a monitor: the thread that owns the place may enter. A place moves between threads, and can't be copied.
 /// Each act borrows it as `&mut`, so two threads can't act by one place.
 ///
+/// If there are more threads than places, threads borrow them from a group [`Places`](crate::Places).
+///
 /// A place that is dropped goes back to its monitor. If it is still inside then, since a guard was forgotten
 /// (`mem::forget`), it leaves first. Until then no other place enters.
 pub struct Place<T, C, M = NoConditions, P: Port = DefaultPort> {
@@ -276,6 +278,13 @@ impl<T, C, M, P: Port> Place<T, C, M, P> {
         self.go_outside(Seat::leave);
     }
 
+    /// Leaves if the place is inside, since its guard was forgotten.
+    pub(crate) fn leave_if_inside(&mut self) {
+        if self.is_inside {
+            self.leave();
+        }
+    }
+
     /// Makes a step by which this place leaves, and wakes the next thread.
     pub(crate) fn go_outside(&mut self, step: impl FnOnce(&mut Seat) -> Next) {
         self.inner.notes.note(self.seat.number(), Does::IsOutside, 0);
@@ -288,9 +297,7 @@ impl<T, C, M, P: Port> Place<T, C, M, P> {
 
 impl<T, C, M, P: Port> Drop for Place<T, C, M, P> {
     fn drop(&mut self) {
-        if self.is_inside {
-            self.leave();
-        }
+        self.leave_if_inside();
     }
 }
 

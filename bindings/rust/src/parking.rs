@@ -1,7 +1,8 @@
 //! How threads sleep until the monitor is theirs.
 //!
 //! The proved door says which place is inside; here its threads are put to sleep and woken, on a word for each place
-//! and one for the entrance. Why no wake-up is lost, here and in C: `docs/WAKING.md` of the repository.
+//! and one for the entrance. Threads that borrow a place sleep at an entrance of their group. Why no wake-up is lost,
+//! here and in C: `docs/WAKING.md` of the repository.
 use crate::door::{Next, Seat};
 use crate::refused::room_for;
 use crate::sync::AtomicU32;
@@ -12,7 +13,7 @@ use core::iter::successors;
 use core::sync::atomic::{Ordering::Acquire, Ordering::SeqCst};
 
 // The word of a place is AWAKE, ASLEEP, or rung: with RUNG by a thread that waits or signals, with LEFT by a thread
-// that left the monitor. The word of the entrance is AWAKE or ASLEEP.
+// that left the monitor. The word of an entrance is AWAKE or ASLEEP.
 const AWAKE: u32 = 0;
 const ASLEEP: u32 = 1;
 const RUNG: u32 = 2;
@@ -123,11 +124,66 @@ impl Drop for EndsIfUnwound {
     }
 }
 
+/// Where threads sleep until they get what only so many may have at once: the monitor, or a place of a group.
+pub(crate) struct Entrance<P> {
+    bell: Bell<P>,
+    /// The threads that sleep here, or are about to, or have been woken and haven't got it yet.
+    sleepers: AtomicU32,
+}
+
+impl<P: Port> Entrance<P> {
+    pub(crate) fn new(port: P) -> Self {
+        Entrance { bell: Bell::new(port), sleepers: AtomicU32::new(0) }
+    }
+
+    /// Wakes a thread if one sleeps. The caller has made free what threads sleep for.
+    #[inline]
+    pub(crate) fn wake(&self) {
+        // SeqCst, since the caller's step comes before it; in `sleep_until` the attempt comes after the write
+        if self.bell.word.load(SeqCst) == ASLEEP {
+            self.wake_sleeper();
+        }
+    }
+
+    #[cold]
+    fn wake_sleeper(&self) {
+        if self.bell.word.swap(AWAKE, SeqCst) == ASLEEP {
+            self.bell.wake_one();
+        }
+    }
+
+    /// Sleeps until an attempt gets what the thread wants. `attempt(true)` may poll. `is_more_free` returns true if
+    /// another thread could get it too at this moment.
+    pub(crate) fn sleep_until(&self, mut attempt: impl FnMut(bool) -> bool, is_more_free: impl FnOnce() -> bool) {
+        self.sleepers.fetch_add(1, SeqCst);
+        loop {
+            // SeqCst, since the attempt comes after it; in `wake` the read comes after the caller's step
+            self.bell.word.swap(ASLEEP, SeqCst);
+            if attempt(false) {
+                break;
+            }
+            self.bell.sleep_while(ASLEEP);
+            if attempt(true) {
+                break;
+            }
+        }
+        if self.sleepers.fetch_sub(1, SeqCst) > 1 {
+            self.bell.word.swap(ASLEEP, SeqCst);
+            if is_more_free() {
+                self.wake_sleeper(); // those that made it free may have found AWAKE
+            }
+        }
+    }
+
+    /// Returns how many threads sleep here or are about to.
+    pub(crate) fn sleepers(&self) -> u32 {
+        self.sleepers.load(SeqCst)
+    }
+}
+
 /// The words of a monitor's threads.
 pub(crate) struct Parking<P> {
-    entrance: Bell<P>,
-    /// The entering threads that sleep, or are about to, or have been woken and aren't in yet.
-    sleepers: AtomicU32,
+    entrance: Entrance<P>,
     bells: Vec<Bell<P>>,
 }
 
@@ -136,7 +192,7 @@ impl<P: Port> Parking<P> {
     pub(crate) fn new(places: usize, mut ports: impl FnMut() -> P) -> Result<Self, Refused> {
         let mut bells = room_for(places)?;
         bells.extend((0..places).map(|_| Bell::new(ports())));
-        Ok(Parking { entrance: Bell::new(ports()), sleepers: AtomicU32::new(0), bells })
+        Ok(Parking { entrance: Entrance::new(ports()), bells })
     }
 
     /// Returns the number of places.
@@ -148,13 +204,7 @@ impl<P: Port> Parking<P> {
     /// if one sleeps. `departure` is the way in which the place of that step released the monitor.
     #[inline]
     pub(crate) fn wake(&self, next: Next, departure: Departure) {
-        let Some(place) = next else {
-            // SeqCst, since the step comes before it; in `enter_asleep` the attempt comes after the write
-            if self.entrance.word.load(SeqCst) == ASLEEP {
-                self.wake_entering();
-            }
-            return;
-        };
+        let Some(place) = next else { return self.entrance.wake() };
         let bell = &self.bells[place];
         let how = if departure == Departure::Leaves { LEFT } else { RUNG };
         // at least Release: the place that sees the ring has to see the step
@@ -163,37 +213,14 @@ impl<P: Port> Parking<P> {
         }
     }
 
-    #[cold]
-    fn wake_entering(&self) {
-        if self.entrance.word.swap(AWAKE, SeqCst) == ASLEEP {
-            self.entrance.wake_one();
-        }
-    }
-
     /// Enters, after an attempt that failed: polls, then sleeps while the monitor isn't free.
     #[cold]
     pub(crate) fn enter_later(&self, seat: &mut Seat, patience: &mut Patience) {
-        if !patience.polls(|| tries(seat, P::POLLS)) {
-            self.enter_asleep(seat, patience);
+        if patience.polls(|| tries(seat, P::POLLS)) {
+            return;
         }
-    }
-
-    fn enter_asleep(&self, seat: &mut Seat, patience: &mut Patience) {
-        self.sleepers.fetch_add(1, SeqCst);
-        loop {
-            // SeqCst, since the attempt comes after it; in `wake` the read comes after the step
-            self.entrance.word.swap(ASLEEP, SeqCst);
-            if seat.try_enter() {
-                break;
-            }
-            self.entrance.sleep_while(ASLEEP);
-            if seat.try_enter() || patience.polls(|| tries(seat, P::POLLS)) {
-                break;
-            }
-        }
-        if self.sleepers.fetch_sub(1, SeqCst) > 1 {
-            self.entrance.word.swap(ASLEEP, SeqCst);
-        }
+        let attempt = |polls| seat.try_enter() || (polls && patience.polls(|| tries(seat, P::POLLS)));
+        self.entrance.sleep_until(attempt, || false); // inside it has the monitor alone
     }
 
     /// Wakes the next thread after a step by which `seat` went away, and returns inside once the monitor is owed to it.

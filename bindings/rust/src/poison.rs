@@ -1,5 +1,5 @@
 //! The error of a poisoned monitor: std's, or the same without std. And what may be used after a caught panic.
-use crate::{Condition, Inside, Monitor, Place, Port};
+use crate::{Borrowed, Condition, Inside, Monitor, Place, Places, Port};
 use core::panic::{RefUnwindSafe, UnwindSafe};
 
 #[cfg(feature = "std")]
@@ -13,6 +13,10 @@ impl<T, C, M, P> UnwindSafe for Monitor<T, C, M, P> {}
 impl<T, C, M, P> RefUnwindSafe for Monitor<T, C, M, P> {}
 impl<T, C, M, P: Port> UnwindSafe for Place<T, C, M, P> {}
 impl<T, C, M, P: Port> RefUnwindSafe for Place<T, C, M, P> {}
+impl<T, C, M, P: Port> UnwindSafe for Places<T, C, M, P> {}
+impl<T, C, M, P: Port> RefUnwindSafe for Places<T, C, M, P> {}
+impl<T, C, M, P: Port> UnwindSafe for Borrowed<'_, T, C, M, P> {}
+impl<T, C, M, P: Port> RefUnwindSafe for Borrowed<'_, T, C, M, P> {}
 impl<T, C: Condition, M: Condition, P: Port> UnwindSafe for Inside<'_, T, C, M, P> {}
 impl<T, C: Condition, M: Condition, P: Port> RefUnwindSafe for Inside<'_, T, C, M, P> {}
 

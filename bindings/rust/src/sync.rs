@@ -1,14 +1,14 @@
-//! The words and the condition variables by which threads sleep. A build with std and `--cfg zaulinte_races` is for
+//! The words and the condition variables by which threads sleep, and the word of a group's free places. A build with std and `--cfg zaulinte_races` is for
 //! tests: a thread may yield before and after each access, at drawn moments, so that threads meet in orders that are
 //! rare otherwise.
 
 #[cfg(not(all(feature = "std", zaulinte_races)))]
-pub(crate) use core::sync::atomic::AtomicU32;
+pub(crate) use core::sync::atomic::{AtomicU32, AtomicU64};
 #[cfg(all(feature = "std", not(zaulinte_races)))]
 pub(crate) use std::sync::Condvar;
 
 #[cfg(all(feature = "std", zaulinte_races))]
-pub(crate) use drawn::{AtomicU32, Condvar};
+pub(crate) use drawn::{AtomicU32, AtomicU64, Condvar};
 
 #[cfg(all(feature = "std", zaulinte_races))]
 mod drawn {
@@ -37,33 +37,38 @@ mod drawn {
         result
     }
 
-    pub(crate) struct AtomicU32(atomic::AtomicU32);
+    macro_rules! drawn {
+        ($name:ident of $number:ty: $($act:ident),*) => {
+            pub(crate) struct $name(atomic::$name);
 
-    impl AtomicU32 {
-        pub(crate) fn new(value: u32) -> Self {
-            AtomicU32(atomic::AtomicU32::new(value))
-        }
+            impl $name {
+                pub(crate) fn new(value: $number) -> Self {
+                    $name(atomic::$name::new(value))
+                }
 
-        pub(crate) fn load(&self, order: Ordering) -> u32 {
-            may_yield_around(|| self.0.load(order))
-        }
+                pub(crate) fn load(&self, order: Ordering) -> $number {
+                    may_yield_around(|| self.0.load(order))
+                }
 
-        pub(crate) fn fetch_add(&self, more: u32, order: Ordering) -> u32 {
-            may_yield_around(|| self.0.fetch_add(more, order))
-        }
-
-        pub(crate) fn fetch_sub(&self, less: u32, order: Ordering) -> u32 {
-            may_yield_around(|| self.0.fetch_sub(less, order))
-        }
-
-        pub(crate) fn swap(&self, value: u32, order: Ordering) -> u32 {
-            may_yield_around(|| self.0.swap(value, order))
-        }
-
-        pub(crate) fn compare_exchange(&self, is: u32, to: u32, yes: Ordering, no: Ordering) -> Result<u32, u32> {
-            may_yield_around(|| self.0.compare_exchange(is, to, yes, no))
-        }
+                pub(crate) fn compare_exchange(
+                    &self,
+                    is: $number,
+                    to: $number,
+                    yes: Ordering,
+                    no: Ordering,
+                ) -> Result<$number, $number> {
+                    may_yield_around(|| self.0.compare_exchange(is, to, yes, no))
+                }
+                $(
+                    pub(crate) fn $act(&self, operand: $number, order: Ordering) -> $number {
+                        may_yield_around(|| self.0.$act(operand, order))
+                    }
+                )*
+            }
+        };
     }
+    drawn!(AtomicU32 of u32: fetch_add, fetch_sub, swap);
+    drawn!(AtomicU64 of u64: fetch_add);
 
     // for a port
     impl Deref for AtomicU32 {

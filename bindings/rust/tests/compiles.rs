@@ -62,6 +62,17 @@ lifetime a_guard_is_covariant: fn f<'b, 'a>(p: Guard<'b, &'static str>) -> Guard
 lifetime a_monitor_is_covariant: fn f<'a>(m: Of<&'static str>) -> Of<&'a str> { m }
 E0597 short_data_escape: let x = 1; let (m, p) = Of::new(&x, 1).unwrap(); thread::spawn(|| p);
 E0597 data_die_before_their_monitor: let (m, p); let x = String::new(); (m, p) = Of::<&String>::new(&x, 1).unwrap();
+E0277 a_group_of_an_rc_is_shared: is_sync::<Places<Rc<u32>, When, Mesa>>();
+E0277 a_borrowed_place_of_an_rc_is_sent: is_send::<Borrowed<'static, Rc<u32>, When, Mesa>>();
+E0277 a_borrowed_place_of_an_rc_is_shared: is_sync::<Borrowed<'static, Rc<u32>, When, Mesa>>();
+E0505 a_group_ends_while_a_place_is_borrowed: let g = Places::new(p).unwrap(); let b = g.borrow(); g.into_inner(); drop(b);
+E0505 a_borrowed_place_is_given_back_inside: let g = Places::new(p).unwrap(); let mut b = g.borrow(); \
+    let i = b.enter().unwrap(); drop(b); drop(i);
+E0499 two_guards_of_a_borrowed_place: let g = Places::new(p).unwrap(); let mut b = g.borrow(); \
+    let i = b.enter().unwrap(); let j = b.try_enter(); drop(i);
+E0507 a_borrowed_place_is_kept: let g = Places::new(p).unwrap(); let b = g.borrow(); let a: Seat<u32> = *b;
+lifetime a_group_is_covariant: fn f<'a>(g: Places<&'static str, When>) -> Places<&'a str, When> { g }
+lifetime a_borrowed_place_is_covariant: fn f<'b, 'a>(p: Borrowed<'b, &'static str, When>) -> Borrowed<'b, &'a str, When> { p }
 E0277 a_guard_goes_to_a_scoped_thread: let mut i = p[0].enter().unwrap(); thread::scope(|s| { s.spawn(|| *i = 1); });
 E0277 a_cell_s_guard_is_shared: let (m, mut p) = Of::new(Cell::new(0), 1).unwrap(); let i = p[0].enter().unwrap(); \
     thread::scope(|s| { s.spawn(|| i.set(1)); });
@@ -73,9 +84,16 @@ no a_condition_has_a_number: conditions! { enum Bad { A = 5 } }
 E0596 a_shared_place_enters: fn f(p: &Seat<u32>) { let _ = p.enter(); }
 E0382 a_monitor_is_used_after_its_end: let data = m.into_inner(); m.is_poisoned();
 unused a_guard_is_unused: p[0].enter().unwrap();
+unused a_borrowed_place_is_unused: let g = Places::new(p).unwrap(); g.borrow();
 unused an_attempt_is_unused: p[0].try_enter();
 unused a_poisoned_wait_is_unused: let mut i = p[0].enter().unwrap(); i.wait(When::Ever, 0);
 fine a_guard_is_shared: let i = p[0].enter().unwrap(); thread::scope(|s| { s.spawn(|| *i + 1); });
+fine a_group_is_shared: is_send::<Places<Cell<u32>, When>>(); is_sync::<Places<Cell<u32>, When>>(); \
+    let g = Places::new(p).unwrap(); thread::scope(|s| { s.spawn(|| *g.borrow().enter().unwrap() += 1); });
+fine a_borrowed_place_moves_and_is_shared: is_send::<Borrowed<'static, Cell<u32>, When>>(); \
+    is_sync::<Borrowed<'static, Cell<u32>, When>>();
+fine a_group_unwinds: let g = Places::new(p).unwrap(); let b = g.borrow(); let _ = catch_unwind(|| drop(g.borrow())); \
+    let _ = catch_unwind(move || drop(b));
 fine borrowed_data: let mut x = 1; let (m, mut p) = Of::new(&mut x, 1).unwrap(); \
     thread::scope(|s| { s.spawn(|| **p[0].enter().unwrap() += 1); });
 fine data_that_are_not_shared: let (m, mut p) = Of::new(Cell::new(0), 1).unwrap(); \

@@ -3,7 +3,7 @@ use std::alloc::{GlobalAlloc, Layout, System};
 use std::cell::{Cell, RefCell};
 use std::rc::Rc;
 use zaulinte::book::Book;
-use zaulinte::{conditions, Monitor, Refused};
+use zaulinte::{conditions, Monitor, Places, Refused};
 
 conditions! { enum When { A, B } }
 conditions! { enum Mesa { C } }
@@ -127,6 +127,22 @@ fn a_monitor_that_is_used_takes_no_more() {
         }
     };
     assert_eq!(taken_by(uses), []);
+}
+
+#[test]
+fn a_group_gives_back_what_it_took_and_a_loan_takes_nothing() {
+    let makes = |fails: bool| {
+        let places = Small::new(7, 9).unwrap().1;
+        BEFORE_FAILURE.with(|before| before.set(fails.then_some(0)));
+        let made = Places::new(places);
+        BEFORE_FAILURE.with(|before| before.set(None));
+        made
+    };
+    assert_eq!(taken_by(|| drop(makes(false).unwrap().into_inner())), []);
+    assert_eq!(taken_by(|| assert_eq!(makes(true).err(), Some(Refused::NoMemory))), []);
+    let group = makes(false).unwrap();
+    assert_eq!(taken_by(|| drop((group.borrow(), group.try_borrow()))), []);
+    assert_eq!(taken_by(|| _ = *group.borrow().enter().unwrap()), []);
 }
 
 // Makes a monitor; the allocation after so many fails.

@@ -90,6 +90,27 @@ fn a_guard_that_is_made_while_its_thread_unwinds_does_not_poison() {
     assert_eq!(monitor.into_inner().unwrap().unwrap(), 1);
 }
 
+#[test]
+fn a_last_signal_while_its_thread_unwinds_poisons() {
+    struct Signals<'a>(Option<Inside<'a, (), When>>);
+    impl Drop for Signals<'_> {
+        fn drop(&mut self) {
+            self.0.take().unwrap().signal_leave(When::Ever);
+        }
+    }
+    let (_monitor, places) = Monitor::<(), When>::new((), 2).unwrap();
+    let [mut waits, mut panics] = <[_; 2]>::try_from(places).ok().unwrap();
+    let waiter = thread::spawn(move || waits.enter().unwrap().wait(When::Ever, 0).is_err());
+    while !panics.enter().unwrap().queue(When::Ever) {
+        thread::yield_now();
+    }
+    let panics = move || {
+        let _signals = Signals(Some(panics.enter().unwrap()));
+        panic!("inside");
+    };
+    assert!(catch_unwind(panics).is_err() && waiter.join().unwrap());
+}
+
 // A place waits by `act`, another panics inside, and a third signals and notifies. Returns what `act` returned.
 fn hears_of_a_panic(act: fn(&mut Inside<'_, bool, When, Mesa>) -> bool) -> bool {
     let (_monitor, places) = Monitor::<bool, When, Mesa>::new(false, 3).unwrap();

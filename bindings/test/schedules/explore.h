@@ -7,8 +7,9 @@
 
 enum { X_THREADS = 4, X_PLACES = 4, X_NOBODY = 64 };
 
-/* A program: its threads' scripts, each with the place by which it acts ("0:e l"), or a dash if it borrows one. programs.c
- * explains the letters. `groups` has a digit for each group: "12" are place 0, and places 1 and 2. */
+/* A program: its threads' scripts, each with the place by which it acts ("0:e l"), or a dash if it borrows places
+ * ("-:g0 e l r"). programs.c explains the letters. `groups` has a digit for each group, how many places it has: the
+ * first groups have the first places. */
 struct x_program {
     const char *name, *script[X_THREADS];
     uint32_t places, hoare, mesa;

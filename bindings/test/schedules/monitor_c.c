@@ -49,6 +49,14 @@ uint32_t x_place_of(void *handle) {
         if (handle == &s.m->place[k].handle) return k;
     return X_NOBODY;
 }
+static const char *name_in_group(void *at) {
+    for (uint32_t k = 0; k < groups; k++) {
+        if (at == (void *)&s.group[k].bell.word) return "the group's word";
+        if (at == (void *)&s.group[k].sleepers) return "the group's number of sleepers";
+        if (at == (void *)&s.group[k].free) return "the group's free places";
+    }
+    return NULL;
+}
 const char *x_name_of(void *at) {
     static const char *const words[] = {"place 0's word", "place 1's word", "place 2's word", "place 3's word"};
     static const char *const claims[] = {"place 0's claim", "place 1's claim", "place 2's claim", "place 3's claim"};
@@ -60,12 +68,7 @@ const char *x_name_of(void *at) {
         if (at == (void *)&s.m->place[k].thread) return claims[k];
         if (at == (void *)&s.m->place[k].handle) return "";
     }
-    for (uint32_t k = 0; k < groups; k++) {
-        if (at == (void *)&s.group[k].bell.word) return "the group's word";
-        if (at == (void *)&s.group[k].sleepers) return "the group's number of sleepers";
-        if (at == (void *)&s.group[k].free) return "the group's free places";
-    }
-    return NULL;
+    return name_in_group(at);
 }
 #ifdef RECORDS
 /* Compares the recording with the steps of the door. */
@@ -160,7 +163,7 @@ static void frees(void) {
     CHECK(zaulinte_free(s.m), ZAULINTE_NO_BOOK);
     x_gone(s.m, size_of_monitor());
 }
-/* Borrows a place of a group, and returns true; if it only tries to, and none is free, returns false. */
+/* Borrows a place, or tries to if the letter is h. Returns false if it tried, and no place is free. */
 static bool borrows(char letter, uint32_t group, uint32_t *place) {
     zaulinte_group *g = &s.group[group];
     uint64_t code = letter == 'g' ? zaulinte_borrow(g, place) : zaulinte_try_borrow(g, place);
@@ -196,9 +199,10 @@ void x_run(uint32_t thread, uint32_t place, const char *script) {
         else if (*c == 'f') frees();
         else if (*c == 'G') CHECK(zaulinte_group_free(&s.group[condition]), ZAULINTE_IN_USE);
         else if (*c == 'r') gives_back(place), place = outer;
-        else if (strchr("gh", *c) && (outer = place, !borrows(*c, condition, &place))) return;
-        else if (strchr("gh", *c)) continue;
-        else if (strchr("etE", *c)) is_inside = enters(place, *c);
+        else if (strchr("gh", *c)) {
+            outer = place;
+            if (!borrows(*c, condition, &place)) return; /* none is free: its script ends */
+        } else if (strchr("etE", *c)) is_inside = enters(place, *c);
         else if (strchr("lpP", *c)) is_inside = leaves(place, *c, condition);
         else if (strchr("?*w", *c)) is_inside = waits(place, *c, condition);
         else if (*c == 's') is_inside = signals(place, condition);

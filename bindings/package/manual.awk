@@ -1,6 +1,6 @@
 # Makes the manual's pages of headers: awk -v to=FOLDER -v version=VERSION -f manual.awk HEADER..
 # The page of a header, FOLDER/NAME.3, has the header's first comment, and all that has a comment above it: functions,
-# types and codes. For each function a page includes that of its header, as zaulinte.3 does that of the first header.
+# types and codes. For each function a page includes that of its header; zaulinte.3 includes that of zaulinte_monitor.h.
 
 # Returns the text of a comment with what is between backticks in bold.
 function bold(text,    part, many, i) {
@@ -12,6 +12,7 @@ function bold(text,    part, many, i) {
 # Returns a line of a comment as lines of a page. An empty line ends a paragraph, and a list's items begin with -.
 function formatted(line) {
     sub(/^ +/, "", line)
+    gsub(/\\/, "\\e", line)
     if (line == "") return ".PP\n"
     if (sub(/^- /, "", line)) return ".IP \\(bu 2\n" bold(line) "\n"
     return "\\&" bold(line) "\n"
@@ -34,6 +35,7 @@ function add_item(    rest) {
 }
 function finish(    at) {
     if (!page) return
+    if (declared) add_item()
     at = to "/" page ".3"
     printf ".TH %s 3 \"\" \"Zaulinte %s\" Zaulinte\n.ad l\n.nh\n", toupper(page), version > at
     printf ".SH NAME\n%s \\- %s\n.SH SYNOPSIS\n\\fB#include <%s.h>\n.PP\n", names, purpose, page > at

@@ -86,8 +86,8 @@ impl Free {
 /// the threads that wait, all places may wait, and then no thread that would signal gets a place: all sleep for ever. A
 /// debug build panics at the wait by which all places of the monitor wait.
 ///
-/// Not specified: which of several threads that want a place gets it first. A debug build shows how many places are
-/// free, and how many threads sleep until one is.
+/// Not specified: which of several threads that want a place gets it first. `{group:?}` shows how many places are free,
+/// and how many threads sleep until one is.
 pub struct Places<T, C, M = NoConditions, P: Port = DefaultPort> {
     places: Vec<UnsafeCell<Place<T, C, M, P>>>,
     free: Free,
@@ -99,7 +99,7 @@ unsafe impl<T, C, M, P: Port> Sync for Places<T, C, M, P> where Place<T, C, M, P
 
 /// A place that was borrowed from its group [`Places`]: it derefs to the [`Place`]. It is given back when it is dropped,
 /// so also if the thread panics. If the place is still inside then, since a guard was forgotten (`mem::forget`), it
-/// leaves first. A `Borrowed` that is forgotten itself is lost to the group: no other thread gets its place.
+/// leaves first. If a `Borrowed` is forgotten itself, no other thread gets its place, until [`Places::into_inner`].
 #[must_use = "the place is given back at once if it is unused"]
 pub struct Borrowed<'a, T, C, M = NoConditions, P: Port = DefaultPort> {
     group: &'a Places<T, C, M, P>,

@@ -49,38 +49,9 @@ impl Free {
     }
 }
 
-/// A group: places of one monitor that any number of threads share, by `&Places`. A thread borrows a place for a visit;
-/// or it keeps the place for as long as it likes, and is attached.
-///
-/// ```
-/// use zaulinte::{conditions, Monitor, Places};
-/// conditions! { enum When { NonEmpty } }
-///
-/// let (monitor, mut places) = Monitor::<Vec<u32>, When>::new(vec![], 8)?;
-/// let givers = Places::new(places.split_off(4))?; // 4 places for the threads that signal
-/// let takers = Places::new(places)?;
-/// std::thread::scope(|s| {
-///     for _ in 0..100 {
-///         s.spawn(|| {
-///             let mut place = takers.borrow();
-///             let mut items = place.enter().unwrap();
-///             if items.is_empty() {
-///                 items.wait(When::NonEmpty, 0).unwrap();
-///             }
-///             items.pop().unwrap()
-///         });
-///     }
-///     for item in 0..100 {
-///         let mut place = givers.borrow();
-///         let mut items = place.enter().unwrap();
-///         items.push(item);
-///         items.signal_leave(When::NonEmpty);
-///     }
-/// });
-/// drop((takers, givers));
-/// assert_eq!(monitor.into_inner().unwrap().unwrap(), []);
-/// # Ok::<(), zaulinte::Refused>(())
-/// ```
+/// A group: places of one monitor that any number of threads share, by `&Places`. A thread borrows a place for a visit,
+/// `let mut place = takers.borrow(); let mut inside = place.enter()?;`; or it keeps the place for as long as it likes,
+/// and is attached.
 ///
 /// **A thread that waits keeps its place.** So the threads that signal need a group of their own. If they share one with
 /// the threads that wait, all places may wait, and then no thread that would signal gets a place: all sleep for ever. A

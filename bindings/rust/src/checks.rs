@@ -50,7 +50,8 @@ impl<C: Condition, M: Condition> fmt::Debug for Waiting<C, M> {
 /// by a thread that panics. A check that panics itself poisons as well.
 ///
 /// A debug build also panics at the wait by which all places of a monitor would wait: no place is left to signal or
-/// notify, so all would sleep for ever. It does so with any checks, and for a monitor without any.
+/// notify, so all would sleep for ever. It does so with any checks, and for a monitor without any; but not if a place
+/// was dropped, or its [`Borrowed`](crate::Borrowed) forgotten.
 ///
 /// - `inv` holds always; tested whenever the monitor is released.
 /// - `rest` holds if no place waits without a cause; tested at a leave and at a wait, with the places that wait (the

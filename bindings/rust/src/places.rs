@@ -49,45 +49,16 @@ impl Free {
     }
 }
 
-/// A group: places of one monitor that any number of threads share, by `&Places`. A thread borrows a place for a visit;
-/// or it keeps the place for as long as it likes, and is attached.
-///
-/// ```
-/// use zaulinte::{conditions, Monitor, Places};
-/// conditions! { enum When { NonEmpty } }
-///
-/// let (monitor, mut places) = Monitor::<Vec<u32>, When>::new(vec![], 8)?;
-/// let givers = Places::new(places.split_off(4))?; // 4 places for the threads that signal
-/// let takers = Places::new(places)?;
-/// std::thread::scope(|s| {
-///     for _ in 0..100 {
-///         s.spawn(|| {
-///             let mut place = takers.borrow();
-///             let mut items = place.enter().unwrap();
-///             if items.is_empty() {
-///                 items.wait(When::NonEmpty, 0).unwrap();
-///             }
-///             items.pop().unwrap()
-///         });
-///     }
-///     for item in 0..100 {
-///         let mut place = givers.borrow();
-///         let mut items = place.enter().unwrap();
-///         items.push(item);
-///         items.signal_leave(When::NonEmpty);
-///     }
-/// });
-/// drop((takers, givers));
-/// assert_eq!(monitor.into_inner().unwrap().unwrap(), []);
-/// # Ok::<(), zaulinte::Refused>(())
-/// ```
+/// A group: places of one monitor that any number of threads share, by `&Places`. A thread borrows a place for a visit,
+/// `let mut place = takers.borrow(); let mut inside = place.enter()?;`; or it keeps the place for as long as it likes,
+/// and is attached.
 ///
 /// **A thread that waits keeps its place.** So the threads that signal need a group of their own. If they share one with
 /// the threads that wait, all places may wait, and then no thread that would signal gets a place: all sleep for ever. A
 /// debug build panics at the wait by which all places of the monitor wait.
 ///
-/// Not specified: which of several threads that want a place gets it first. A debug build shows how many places are
-/// free, and how many threads sleep until one is.
+/// Not specified: which of several threads that want a place gets it first. `{group:?}` shows how many places are free,
+/// and how many threads sleep until one is.
 pub struct Places<T, C, M = NoConditions, P: Port = DefaultPort> {
     places: Vec<UnsafeCell<Place<T, C, M, P>>>,
     free: Free,
@@ -99,7 +70,7 @@ unsafe impl<T, C, M, P: Port> Sync for Places<T, C, M, P> where Place<T, C, M, P
 
 /// A place that was borrowed from its group [`Places`]: it derefs to the [`Place`]. It is given back when it is dropped,
 /// so also if the thread panics. If the place is still inside then, since a guard was forgotten (`mem::forget`), it
-/// leaves first. A `Borrowed` that is forgotten itself is lost to the group: no other thread gets its place.
+/// leaves first. If a `Borrowed` is forgotten itself, no other thread gets its place, until [`Places::into_inner`].
 #[must_use = "the place is given back at once if it is unused"]
 pub struct Borrowed<'a, T, C, M = NoConditions, P: Port = DefaultPort> {
     group: &'a Places<T, C, M, P>,

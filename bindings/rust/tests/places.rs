@@ -15,7 +15,7 @@ type Place<P> = zaulinte::Place<Vec<u32>, When, NoConditions, P>;
 
 const TAKERS: usize = 300;
 const GIVERS: usize = 20;
-const EACH: usize = 10;
+const EACH: usize = 2;
 
 // Sleeps by std, and counts the threads that fell asleep.
 #[derive(Clone, Default)]
@@ -200,7 +200,7 @@ fn a_group_that_signallers_share_with_waiters_is_found() {
 
 fn main() {
     thread::spawn(|| {
-        thread::sleep(Duration::from_secs(100));
+        thread::sleep(Duration::from_secs(200));
         eprintln!("a thread sleeps for ever");
         std::process::exit(1);
     });

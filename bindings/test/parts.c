@@ -1,6 +1,17 @@
 /* The parts to copy (bindings/c/parts), each by threads. `parts NAME` tests one of them. A thread that sleeps for ever
  * ends the program by a signal. */
 #define _GNU_SOURCE
+#if defined(__linux__) && !defined(LIMIT_CLOCK_CONDVAR)
+#include <stdatomic.h>
+#include <sys/timerfd.h>
+/* Each third thread that arms the timer does so after a pause: meanwhile others arm it. */
+static int arms_late(int timer, int flags, const struct itimerspec *to, struct itimerspec *was) {
+    static atomic_uint times;
+    if (times++ % 3 == 0) nanosleep(&(struct timespec){0, 1}, NULL);
+    return timerfd_settime(timer, flags, to, was);
+}
+#define timerfd_settime arms_late
+#endif
 #include "parts/barrier.h"
 #include "parts/latch.h"
 #include "parts/limit_clock.h"
@@ -201,8 +212,12 @@ static void rule(void) {
 static void readers_and_writers(void) {
     pthread_t readers[READERS], writers[WRITERS];
     ZAULINTE_CHECK(readers_writers_make(&lock));
-    starts(readers, READERS, reads, NULL);
+    start_read(&lock);
     starts(writers, WRITERS, writes, NULL);
+    until_waiting(&lock.m, &lock.enders, READERS_WRITERS_WRITE, WRITERS);
+    starts(readers, READERS, reads, NULL);
+    until_waiting(&lock.m, &lock.enders, READERS_WRITERS_READ, READERS_WRITERS_STARTERS - WRITERS);
+    end_read(&lock);
     joins(readers, READERS);
     joins(writers, WRITERS);
     IS(left, WRITERS * TURNS);
@@ -284,6 +299,22 @@ static void take_items(bool are_given) {
     IS(got + items, are_given ? STORES * GIVEN : 0);
     IS(timer.wakes - woken <= 2 * over + got, true);
 }
+/* Rounds of one waiter for each store: if a deadline is lost, no later one of the round makes the clock thread wake. */
+static void *takes_in_rounds(void *of) {
+    uint64_t k = (uint64_t)((store *)of - stores);
+    for (uint64_t n = 0; n < ROUNDS; n++) {
+        IS(takes_item(of, limit_now() + 1000 * ((k + 3) * n % 101)), false);
+        barrier_wait(&meets);
+    }
+    return NULL;
+}
+static void take_in_rounds(void) {
+    pthread_t ids[STORES];
+    ZAULINTE_CHECK(barrier_make(&meets, STORES));
+    for (int k = 0; k < STORES; k++) starts(&ids[k], 1, takes_in_rounds, &stores[k]);
+    joins(ids, STORES);
+    barrier_free(&meets);
+}
 /* Waits of the first store end in the order in which they are due; one of the second ends meanwhile. */
 static void *takes_before_far(void *which) {
     IS(takes_item(&stores[0], limit_deadline(FAR)), true);
@@ -323,6 +354,7 @@ static void limits(void) {
     IS((uint64_t)limit_clock_start(&timer), 0);
     IS(takes_item(&stores[0], 0), false);
     take_in_order();
+    take_in_rounds();
     take_items(false);
     take_items(true);
     limit_clock_stop(&timer);

@@ -9,7 +9,7 @@
  * TESTED: that the keeper collects each place that was given back, with what the place knew.
  * Not proved: this header. The caller owes the following, and nothing checks it:
  *  - `door` and `place` point to handles that were all zero at first and that these functions alone wrote. A handle
- *    is never copied. `value` and `priority` point to a word of the caller's;
+ *    is never copied. `value`, `priority` and `resumed` each point to a word of the caller's;
  *  - one call at a time on one door, and one at a time on one place. Calls on different places, and on their door,
  *    may overlap. A handle moves to another thread in an order that both threads see (by a lock, or a join);
  *  - the data of the monitor are touched by the place inside alone;
@@ -104,9 +104,10 @@ uint64_t zaulinte_door_wait(zaulinte_door_place *place, uint64_t condition, uint
  * still inside. Refused: 107 `place` holds nothing, 104 the place isn't inside, 105 no such condition, 106 a Mesa
  * condition. */
 uint64_t zaulinte_door_signal(zaulinte_door_place *place, uint64_t condition);
-/* Lets the place signal `condition`, one of Hoare's, and leave, in one step. Returns the place to wake, or 64, as
- * `leave` does. Refused as `signal`. */
-uint64_t zaulinte_door_signal_leave(zaulinte_door_place *place, uint64_t condition);
+/* Lets the place signal `condition`, one of Hoare's, and leave, in one step. Writes 1 to *resumed if a place waited on
+ * the condition, else 0. Returns the place to wake, or 64, as `leave` does: if a place waited, it is the place that the
+ * signal resumed. Refused as `signal`; *resumed then stays. */
+uint64_t zaulinte_door_signal_leave(zaulinte_door_place *place, uint64_t condition, uint64_t *resumed);
 /* Lets the place notify the waiter on the Mesa condition `condition` that a signal would resume. Returns the number of
  * notified places, 1 or 0. No thread is woken for that: a later act returns the notified place. Refused: 107 `place`
  * holds nothing, 104 the place isn't inside, 105 no such condition, 106 one of Hoare's conditions. */

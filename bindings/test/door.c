@@ -53,7 +53,6 @@ static uint64_t returns(int k) { return zaulinte_door_try_return(&place[k]); }
 static uint64_t leaves(int k) { return zaulinte_door_leave(&place[k]); }
 static uint64_t waits(int k, uint64_t c, uint64_t p) { return zaulinte_door_wait(&place[k], c, p); }
 static uint64_t signals(int k, uint64_t c) { return zaulinte_door_signal(&place[k], c); }
-static uint64_t exits(int k, uint64_t c) { return zaulinte_door_signal_leave(&place[k], c); }
 static uint64_t notifies(int k, uint64_t c) { return zaulinte_door_notify(&place[k], c); }
 static uint64_t broadcasts(int k, uint64_t c) { return zaulinte_door_broadcast(&place[k], c); }
 static uint64_t queue(int k, uint64_t c) { return zaulinte_door_queue(&place[k], c); }
@@ -73,6 +72,11 @@ static void is_out(int k, int places, uint64_t answer) {
     IS(out >> answer & 1, 0);
     number[k] = answer;
     out |= (uint64_t)1 << answer;
+}
+static void exits(int k, uint64_t c, uint64_t code, uint64_t wanted) {
+    uint64_t resumed = 77;
+    IS(zaulinte_door_signal_leave(&place[k], c, &resumed), code);
+    IS(resumed, wanted);
 }
 static void gives_out(int k, int places) { is_out(k, places, zaulinte_door_give_out(&door, &place[k])); }
 /* makes the door and gives all places out: they come as places - 1, .., 0 */
@@ -123,7 +127,7 @@ static void answers_of_no_place(zaulinte_door_place *p) {
     IS(zaulinte_door_leave(p), 107);
     IS(zaulinte_door_wait(p, UINT64_MAX, UINT64_MAX), 107);
     IS(zaulinte_door_signal(p, 0), 107);
-    IS(zaulinte_door_signal_leave(p, UINT64_MAX), 107);
+    IS(zaulinte_door_signal_leave(p, UINT64_MAX, &kept), 107);
     IS(zaulinte_door_notify(p, 0), 107);
     IS(zaulinte_door_broadcast(p, 8), 107);
     IS(zaulinte_door_get(p, &kept), 107);
@@ -176,7 +180,7 @@ static void asks_on(int k, uint64_t c, uint64_t code) {
 static void acts_on(int k, uint64_t c, uint64_t code) {
     IS(waits(k, c, 0), code);
     IS(signals(k, c), code);
-    IS(exits(k, c), code);
+    exits(k, c, code, 77);
     IS(notifies(k, c), code);
     IS(broadcasts(k, c), code);
 }
@@ -203,7 +207,7 @@ static void inside(int k) {
     acts_on(k, 2, 105);
     asks_on(k, UINT64_MAX, 105);
     IS(signals(k, 1), 106);
-    IS(exits(k, 1), 106);
+    exits(k, 1, 106, 77);
     IS(notifies(k, 0), 106);
     IS(broadcasts(k, 0), 106);
     IS(state(k), 1);
@@ -257,14 +261,14 @@ static void acts(void) {
     IS(count(3, 1), 2);
     IS(broadcasts(3, 1), 2);
     IS(broadcasts(3, 1), 0);
-    IS(exits(3, 0), 2);
+    exits(3, 0, 2, 0); /* place 2 was notified */
     IS(state(3), 0);
     returns_and_leaves(2, 1);
     returns_and_leaves(1, 4);
     returns_and_leaves(4, 64);
     comes_to_wait(0, 0, 0);
     IS(enters(3), 64);
-    IS(exits(3, 0), 0);
+    exits(3, 0, 0, 1);
     returns_and_leaves(0, 64);
     closes(5, 0);
 }
@@ -286,7 +290,7 @@ static void close_and_again(void) {
     IS(reads(1, &value), 0);
     IS(value, 31);
     IS(writes(1, 33), 0);
-    IS(exits(1, 0), 0);
+    exits(1, 0, 0, 1);
     IS(zaulinte_door_try_return(&again), 64);
     IS(zaulinte_door_leave(&again), 64);
     IS(zaulinte_door_give_back(&again), 0);

@@ -154,8 +154,9 @@ static void leave(seat *s) {
     wakes(zaulinte_door_leave(&s->place));
 }
 static void signal_and_leave(seat *s, uint64_t condition) {
+    uint64_t resumed;
     gives_up();
-    wakes(zaulinte_door_signal_leave(&s->place, condition));
+    wakes(zaulinte_door_signal_leave(&s->place, condition, &resumed));
 }
 static void notify(seat *s, uint64_t condition) { CHECK(zaulinte_door_notify(&s->place, condition) <= 1); }
 

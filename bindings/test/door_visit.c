@@ -22,8 +22,9 @@ static void visit(void) {
     if (zaulinte_door_leave(&place) != ZAULINTE_DOOR_NOBODY) abort();
 }
 static void signalled_visit(void) {
+    uint64_t resumed;
     if (zaulinte_door_try_enter(&place) != ZAULINTE_DOOR_ENTERED) abort();
-    if (zaulinte_door_signal_leave(&place, 0) != ZAULINTE_DOOR_NOBODY) abort();
+    if (zaulinte_door_signal_leave(&place, 0, &resumed) != ZAULINTE_DOOR_NOBODY) abort();
 }
 static void two_steps(void) {
     uint64_t is = 0;

@@ -18,9 +18,7 @@ pub mod keeper_slot;
 pub mod place;
 
 use door::HeldDoor;
-use door_place::act::{
-    Broadcast, Leave, Notify, Set, Signal, SignalLeave, TryEnter, TryReturn, Wait,
-};
+use door_place::act::{Broadcast, Leave, Notify, Set, Signal, TryEnter, TryReturn, Wait};
 use door_place::codes::{DONE, IN_USE, IS_HELD, NO_MEMORY, NOTHING_HELD};
 use door_place::keeper::Keeper;
 use hoare_law::event::Sizes;
@@ -224,15 +222,24 @@ pub extern "C" fn zaulinte_door_signal(place: &mut HeldPlace, condition: u64) ->
     place.act(Signal(condition))
 }
 
-/// Lets the place signal `condition`, one of Hoare's, as its last act. Returns the place to wake, or 64. Refused, in
-/// this order: 107 no place is held, 104 not inside, 105 no such condition, 106 a Mesa condition.
+/// Lets the place signal `condition`, one of Hoare's, as its last act, and writes 1 to `resumed` if a place waited on
+/// the condition, else 0. Returns the place to wake, or 64: if a place waited, it is the place that the signal resumed.
+/// Refused, in this order: 107 no place is held, 104 not inside, 105 no such condition, 106 a Mesa condition; then
+/// `resumed` stays as it is.
 #[unsafe(no_mangle)]
-pub extern "C" fn zaulinte_door_signal_leave(place: &mut HeldPlace, condition: u64) -> u64
-    ensures acted { place.old.live ≡ 1
-        → Acted (act.SignalLeave condition) place.old.handle.value place.new.live place.new.handle.value result }
-    ensures none { place.old.live ≡ 0 → (result ≡ 107) × (place.new ≡ place.old) }
+pub extern "C" fn zaulinte_door_signal_leave(
+    place: &mut HeldPlace,
+    condition: u64,
+    resumed: &mut u64,
+) -> u64
+    ensures acted { place.old.live ≡ 1 → Acted (act.SignalLeave condition resumed.old resumed.new)
+        place.old.handle.value place.new.live place.new.handle.value result }
+    ensures none { place.old.live ≡ 0 → (result ≡ 107) × (place.new ≡ place.old) × (resumed.new ≡ resumed.old) }
 {
-    place.act(SignalLeave(condition))
+    let Some(place) = place.held().get_mut() else {
+        return NOTHING_HELD;
+    };
+    place.signal_leave(condition, resumed)
 }
 
 /// Lets the place notify the waiter on the Mesa condition `condition` that a signal would resume. Returns the number of

@@ -23,8 +23,9 @@ Wait c p d old new code = Waits d old c p new code
 abbrev pub Signal : ℕ → Deed
 Signal c d old new code = Signals d old c new code
 
-abbrev pub SignalLeave : ℕ → Deed
-SignalLeave c d old new code = SignalLeaves d old c new code
+-- with the word `resumed` before and after
+abbrev pub SignalLeave : ℕ → ℕ → ℕ → Deed
+SignalLeave c before resumed d old new code = SignalLeaves d old c before new resumed code
 
 abbrev pub Notify : ℕ → Deed
 Notify c d old new code = Notifies d old c new code

@@ -1,6 +1,6 @@
 -- The state of a place of a door, and what each act makes of it.
-use Rattle.std.specs.Prelude.{◌≡◌, ◌<◌, ◌≤◌, ℕ, [], ⊤, Bool, if◌then◌else◌}
-use Rattle.std.specs.Prelude.{◌≢◌, length, slice_index}
+use Rattle.std.specs.Prelude.{◌≡◌, ◌<◌, ◌≤◌, ℕ, [], ⊤, Bool, IsTrue, if◌then◌else◌}
+use Rattle.std.specs.Prelude.{◌≢◌, ◌↔◌, length, slice_index}
 use Rattle.hoare_law.specs.declared.event.Event.TheVariants.{Admit, Wait, Leave}
 use Rattle.hoare_law.specs.declared.event.History.{History}
 use Rattle.hoare_law.specs.declared.unconstrained.Unconstrained.{Unconstrained}
@@ -103,17 +103,19 @@ pub data Signals (d : StepId) (old : State) (c : ℕ) (new : State) (code : ℕ)
   wrong_kind : (i : PlaceIn Carried) → old ≡ Inside i → new ≡ old → IsMesa d.kinds.conditions d.kinds.mesa c
       → code ≡ 106 → Signals d old c new code
 
--- a signal joined with the exit: the place is outside, and the code is the place to wake; it isn't inside (104); there
--- is no such condition (105); it is a Mesa condition (106)
-pub data SignalLeaves (d : StepId) (old : State) (c : ℕ) (new : State) (code : ℕ) : Type 0 where
+-- a signal joined with the exit: the place is outside, the code is the place to wake, and the word `resumed` is 1 if a
+-- place waited on the condition, else 0; it isn't inside (104); there is no such condition (105); it is a Mesa
+-- condition (106). A refusal leaves the word as it was before
+pub data SignalLeaves (d : StepId) (old : State) (c before : ℕ) (new : State) (resumed code : ℕ) : Type 0 where
   exits : (i : PlaceIn Carried) (o : PlaceOut Carried) (b : Bool) → old ≡ Inside i → new ≡ Outside o
       → IsHoare d.kinds.conditions d.kinds.mesa c → o.place ≡ i.place → Exits i.place c i.state i.front o.front b
-      → Wakes o.front code → SignalLeaves d old c new code
-  not_inside : NotInside old → new ≡ old → code ≡ 104 → SignalLeaves d old c new code
-  no_condition : (i : PlaceIn Carried) → old ≡ Inside i → new ≡ old → d.kinds.conditions ≤ c → code ≡ 105
-      → SignalLeaves d old c new code
+      → (IsTrue b ↔ (priorities i.front.events c ≢ [])) → resumed ≡ (if b then 1 else 0) → Wakes o.front code
+      → SignalLeaves d old c before new resumed code
+  not_inside : NotInside old → new ≡ old → resumed ≡ before → code ≡ 104 → SignalLeaves d old c before new resumed code
+  no_condition : (i : PlaceIn Carried) → old ≡ Inside i → new ≡ old → d.kinds.conditions ≤ c → resumed ≡ before
+      → code ≡ 105 → SignalLeaves d old c before new resumed code
   wrong_kind : (i : PlaceIn Carried) → old ≡ Inside i → new ≡ old → IsMesa d.kinds.conditions d.kinds.mesa c
-      → code ≡ 106 → SignalLeaves d old c new code
+      → resumed ≡ before → code ≡ 106 → SignalLeaves d old c before new resumed code
 
 -- a notify: the place is inside as it was, and the code is the number of notified places; it isn't inside (104); there
 -- is no such condition (105); it is one of Hoare's (106)

@@ -1,8 +1,11 @@
-//! The acts of a place. Each act is a type of its own, so that the code for an act holds that act alone.
+//! The acts of a place. Each act is a type of its own, or a function if it has two results, so that the code for an act
+//! holds that act alone.
 ghost use Rattle.std.specs.Prelude.{◌≡◌, ◌≤◌};
 ghost use Rattle.baton_door.specs.StepDoors.{StepId};
+ghost use Rattle.hoare_law.specs.Growth.{Begins};
 ghost use Rattle.door_place.specs.Codes.{code_of};
 ghost use Rattle.door_place.specs.Deeds as deeds;
+ghost use Rattle.door_place.specs.States.{IsState, front_of, number_of};
 
 use crate::codes::{
     self, DONE, NO_CONDITION, NOBODY, NOT_AWAY, NOT_INSIDE, NOT_NOW, NOT_OUTSIDE, WRONG_KIND,
@@ -55,11 +58,6 @@ pub struct Wait(pub u64, pub u64);
 /// `NO_CONDITION`, `WRONG_KIND`.
 #[derive(Clone, Copy)]
 pub struct Signal(pub u64);
-
-/// A signal on one of Hoare's conditions, `.0`, as the last act: the place is outside then. Returns the place to wake,
-/// or `NOBODY`. Refused: `NOT_INSIDE`, `NO_CONDITION`, `WRONG_KIND`.
-#[derive(Clone, Copy)]
-pub struct SignalLeave(pub u64);
 
 /// A notify of the place that a signal on a Mesa condition, `.0`, would resume. Returns the number of notified places,
 /// 1 or 0. Refused: `NOT_INSIDE`, `NO_CONDITION`, `WRONG_KIND`.
@@ -164,26 +162,6 @@ impl Act for Signal {
     }
 }
 
-impl Act for SignalLeave {
-    ghost deed = { λ s. deeds.SignalLeave s.0 };
-
-    fn perform(self, door: &Door, state: State) -> (State, u64) {
-        let SignalLeave(condition) = self;
-        let State::Inside(inside) = state else {
-            return (state, NOT_INSIDE);
-        };
-        let limits = Limits::of(door);
-        if condition >= limits.conditions {
-            return (State::Inside(inside), NO_CONDITION);
-        }
-        if condition >= limits.hoare {
-            return (State::Inside(inside), WRONG_KIND);
-        }
-        let (out, _, next) = calls::signal_leave_to(door, inside, condition as usize);
-        (State::Outside(out), code_of(door, next))
-    }
-}
-
 impl Act for Notify {
     ghost deed = { λ n. deeds.Notify n.0 };
 
@@ -236,4 +214,34 @@ impl Act for Set {
         guarded.held.contents.state.value = value;
         (State::Inside(inside), DONE)
     }
+}
+
+/// A signal on one of Hoare's conditions as the last act: the place is outside then. It has a second result, and so it
+/// isn't an `Act`. Asked: the door, the condition, and the second result of a refusal. Returns the new state, with the
+/// place to wake, or `NOBODY`, and 1 if a place waited on the condition, else 0. Refused: `NOT_INSIDE`, `NO_CONDITION`,
+/// `WRONG_KIND`.
+pub(crate) fn signal_leave(state: State, asked: (&Door, u64, u64)) -> (State, (u64, u64))
+    requires { IsState asked.0.now state }
+    ensures made { deeds.SignalLeave asked.entry.1 asked.entry.2 result.1.1
+        asked.entry.0.now state result.0 result.1.0 }
+    ensures of { IsState asked.entry.0.now result.0 }
+    ensures number { number_of result.0 ≡ number_of state }
+    ensures front { Begins (front_of state) (front_of result.0) }
+{
+    let (door, condition, before) = asked;
+    let State::Inside(inside) = state else {
+        return (state, (NOT_INSIDE, before));
+    };
+    let limits = Limits::of(door);
+    if condition >= limits.conditions {
+        return (State::Inside(inside), (NO_CONDITION, before));
+    }
+    if condition >= limits.hoare {
+        return (State::Inside(inside), (WRONG_KIND, before));
+    }
+    let (out, resumed, next) = calls::signal_leave_to(door, inside, condition as usize);
+    (
+        State::Outside(out),
+        (code_of(door, next), u64::from(resumed)),
+    )
 }

@@ -2,11 +2,12 @@
 ghost use Rattle.std.specs.Prelude.{◌≡◌};
 ghost use Rattle.baton_door.specs.StepDoors.{StepId};
 ghost use Rattle.std.specs.Arc.{arc_value};
+ghost use Rattle.door_place.specs.Deeds as deeds;
 ghost use Rattle.door_place.specs.Places.{Acts, GivesBack, NumberIs, place_at};
 ghost use Rattle.door_place.specs.States.{IsState, Gets, Counts, AsksQueue, AsksFirst, where_is};
 ghost use Rattle.door_place.specs.declared.state.State.TheVariants.{Outside};
 
-use crate::act::Act;
+use crate::act::{self, Act};
 use crate::codes::{DONE, NOBODY, NOT_NOW, NOT_OUTSIDE};
 use crate::moves::may_move;
 use crate::shared::Shared;
@@ -83,6 +84,20 @@ impl Place {
         mem::replace_with(&mut self.state, (act, door), |state, (act, door)| {
             act.perform(door, state)
         })
+    }
+
+    /// Signals `condition`, one of Hoare's, as the last act, and writes 1 to `resumed` if a place waited on it, else 0:
+    /// the place is outside then. Returns the place to wake, which is the place that waited if there is one, or
+    /// `NOBODY`. Refused, in this order: `NOT_INSIDE`, `NO_CONDITION`, `WRONG_KIND`; then `resumed` stays as it is.
+    pub fn signal_leave(&mut self, condition: u64, resumed: &mut u64) -> u64
+        ensures door { self.new.door ≡ self.old.door }
+        ensures acts { Acts self.old.door (deeds.SignalLeave condition resumed.old resumed.new)
+            self.old.state self.new.state result }
+    {
+        let asked = (self.shared.door(), condition, *resumed);
+        let (code, after) = mem::replace_with(&mut self.state, asked, act::signal_leave);
+        *resumed = after;
+        code
     }
 
     /// Gives the place back to its door, and returns `DONE`: it isn't here then. Refused, in this order: `NOT_OUTSIDE`;

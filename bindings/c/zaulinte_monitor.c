@@ -186,13 +186,12 @@ uint64_t zaulinte_signal(ON, bool *resumed) {
     return 0;
 }
 uint64_t zaulinte_signal_leave(ON, bool *resumed) {
-    uint64_t refused = may_act_on(m, place, condition);
+    uint64_t waited = 0, refused = may_act_on(m, place, condition); /* MemorySanitizer doesn't see the archive's write */
     if (refused) return refused;
-    bool waited = resumed && zaulinte_door_queue(at(m, place), condition) == 1;
     check_signal_leave(m, place, condition);
     NOTE_ACT(PASS, condition, 0);
     visit_ends(m);
-    uint64_t next = zaulinte_door_signal_leave(at(m, place), condition);
+    uint64_t next = zaulinte_door_signal_leave(at(m, place), condition, &waited);
     if (next > NOBODY) return next;
     if (resumed) *resumed = waited;
     wake(m, next, LEFT);
@@ -223,7 +222,7 @@ uint64_t zaulinte_count(ON, uint64_t *count) {
     return refused ? refused : tell(zaulinte_door_count(at(m, place), condition), count);
 }
 uint64_t zaulinte_first(ON, bool *waits, uint64_t *priority) {
-    uint64_t least = 0, refused = may_act_on(m, place, condition); /* MemorySanitizer doesn't see the archive's write */
+    uint64_t least = 0, refused = may_act_on(m, place, condition); /* as in signal_leave */
     uint64_t some = refused ? refused : zaulinte_door_first(at(m, place), condition, &least);
     if (some > 1) return some;
     if (waits) *waits = some;

@@ -107,13 +107,6 @@ static void same_queue(list got, const monitor &m, word condition, word code) {
     word any = !queue.empty();
     same("a question on a condition", got, {any, any, any ? queue.begin()->first : untouched, queue.size()});
 }
-// The archives of bindings/lib don't have the third parameter yet.
-static word signal_leave(zaulinte_door_place *place, word condition, word *resumed) {
-    word waits = zaulinte_door_queue(place, condition), next = zaulinte_door_signal_leave(place, condition);
-    if (next <= nobody) *resumed = waits;
-    return next;
-}
-
 struct world {
     const uint8_t *at, *end;
     book books[3] = {};
@@ -232,7 +225,7 @@ struct world {
         if (!code) p.of->value = n, code = p.of->refusal(a, p.number, c);
         word many = code ? untouched : p.of->step(a, p.number, c, n);
         word got = a == LEAVE ? zaulinte_door_leave(h) : a == WAIT ? zaulinte_door_wait(h, c, n)
-            : a == SIGNAL ? zaulinte_door_signal(h, c) : a == PASS ? signal_leave(h, c, &resumed)
+            : a == SIGNAL ? zaulinte_door_signal(h, c) : a == PASS ? zaulinte_door_signal_leave(h, c, &resumed)
             : a == NOTIFY ? zaulinte_door_notify(h, c) : zaulinte_door_broadcast(h, c);
         word wanted = code ? code : a >= NOTIFY ? many : p.of->owed ? p.of->holder : nobody;
         same("an act of a place", {got, resumed}, {wanted, a == PASS ? many : untouched});

@@ -122,13 +122,10 @@ struct world {
     }
     act drawn() { return std::data({LEAVE, WAIT, WAIT, WAIT, SIGNAL, PASS, NOTIFY, BROADCAST})[byte() % 8]; }
     template <class Make, class Handle, class... Value> word make(Make call, Handle &h, monitor &m, Value... value) {
-        word p = number(9), c = number(5), mesa = number(3);
-        plan_failure();
-        word code = call(&h, p, c, mesa, value...);
+        word p = number(9), c = number(5), mesa = number(3), code = call(&h, p, c, mesa, value...);
         same("make", {code}, {m.make(p, c, mesa, failed)});
         return code;
     }
-    void plan_failure() { until_failure = byte() % 4 == 1 ? byte() % 8 : -1, failed = false; }
 
     void call(book &b) {
         word lot = b.live || byte() % 2 ? byte() : 0, k = number(b.places), c = number(b.conditions), n = number(4);
@@ -197,7 +194,6 @@ struct world {
         if (!code) d.live = false;
     }
     void give_out(door &d, place &p) {
-        plan_failure();
         word got = zaulinte_door_give_out(&d.handle, &p.handle), code = p.of->live ? 108 : !d.live ? 107 : 0;
         if (!code) code = d.out.size() == d.places ? 114 : failed ? 111 : 0;
         if (code == 111) d.in_order = d.in_hand = false;
@@ -267,6 +263,7 @@ struct world {
     }
     void call(unsigned kind) {
         unsigned lot = byte(), now = kind == 3 ? lot / 8 % 3 : kind;
+        until_failure = byte() % 4 == 1 ? byte() % 8 : -1, failed = false;
         if (now == 0) call(books[lot % 3]);
         else if (now == 1) call(doors[lot % 2]);
         else call(heads[lot % 2], model_heads[lot % 2]);

@@ -112,7 +112,7 @@ static bool explore(const struct x_program *p) {
 }
 /* A program of its own scripts, "0:e l;1:e l". */
 static bool explore_own(char *scripts) {
-    struct x_program own = {scripts, {NULL}, 1, 1, 1, groups};
+    struct x_program own = {scripts, {NULL}, !groups, 1, 1, groups};
     for (const char *c = groups; c && *c; c++) own.places += (uint32_t)(*c - '0');
     char *script = strdup(scripts);
     for (uint32_t k = 0; script && k < X_THREADS; k++) {

@@ -99,10 +99,11 @@ const char *x_finished(void) {
         if (s.m->place[k].thread) return "all threads ended, and a place is claimed";
         if (s.m->place[k].bell.word == 1) return "all threads ended, and a place's word says that one sleeps";
     }
+    const char *wrong = finish_groups();
 #ifdef RECORDS
-    if (s.m->places) return compare_recording();
+    if (!wrong && s.m->places) wrong = compare_recording();
 #endif
-    return finish_groups();
+    return wrong;
 }
 
 /* Each of these makes the call of a letter, and returns true if the place is inside then. */

@@ -358,6 +358,9 @@ static void limits(void) {
     take_items(false);
     take_items(true);
     limit_clock_stop(&timer);
+    IS((uint64_t)limit_clock_start(&timer), 0);
+    IS(takes_item(&stores[1], limit_deadline(5)), false);
+    limit_clock_stop(&timer);
 }
 
 static const struct {

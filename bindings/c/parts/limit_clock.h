@@ -53,7 +53,7 @@ typedef struct limit {
 typedef struct limit_clock {
     _Atomic uint64_t due; /* the clock thread sleeps until then, in nanoseconds of LIMIT_TIME. UINT64_MAX: for ever */
     _Atomic bool ends;
-    _Atomic uint64_t wakes; /* how often a time came for which the clock thread slept */
+    _Atomic uint64_t wakes; /* how often the clock thread woke, and visited the monitors */
     limit *limits;
     pthread_t thread;
 #ifdef LIMIT_CLOCK_CONDVAR
@@ -113,7 +113,7 @@ static inline int limit_open(limit_clock *c) {
     return c->timer < 0 ? errno : 0;
 }
 static inline void limit_close(limit_clock *c) { close(c->timer); }
-/* Threads may arm the timer at once. The last one that did so has read `due` after that, and armed it with this. */
+/* Several threads may arm the timer at once. The last of them reads `due` afterwards: the timer is armed for that. */
 static inline void limit_arm(limit_clock *c) {
     uint64_t due;
     do {
@@ -207,7 +207,7 @@ static inline bool limit_wait(limit *l, uint32_t place, uint64_t deadline) {
     if (limit_lower(l->clock, deadline)) limit_arm(l->clock);
     ZAULINTE_CHECK(zaulinte_wait(l->m, place, l->condition, deadline));
     bool is_over = l->by_clock;
-    l->by_clock = false; /* so that a later signal doesn't find it */
+    l->by_clock = false; /* now: the thread may signal others, or leave */
     return !is_over;
 }
 #endif

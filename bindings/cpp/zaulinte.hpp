@@ -417,7 +417,7 @@ template <class M> class group {
 
       public:
         inside(inside &&) = default;
-        inside &operator=(inside &&i) noexcept {
+        inside &operator=(inside &&i) noexcept { // the place leaves, then it is given back
             M::inside::operator=(std::move(i));
             loan::operator=(std::move(i));
             return *this;

@@ -8,7 +8,9 @@
 #include <atomic>
 #include <cstdlib>
 #include <cstring>
+#include <thread>
 #include <unistd.h>
+#include <vector>
 
 static void is_on(int line, bool held) {
     if (!held) std::fprintf(stderr, "parts.cpp:%d: wrong\n", line), std::_Exit(1);

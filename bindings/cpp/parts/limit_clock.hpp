@@ -54,6 +54,7 @@ class limit_clock {
         earlier.notify_one();
         thread.join();
     }
+    // Adds a client, which isn't due before its first `arm`.
     void add(client &c) {
         std::lock_guard in(mutex);
         clients.push_back(&c);
@@ -64,7 +65,7 @@ class limit_clock {
         idle.wait(in, [&] { return visited != &c; });
         clients.erase(std::find(clients.begin(), clients.end(), &c));
     }
-    // Makes the clock call `resume_due` of the client at the deadline, or before. Inside of the client's monitor.
+    // Makes the clock call `resume_due` of the client at the deadline, or before. The caller is inside of its monitor.
     void arm(client &c, time deadline) {
         std::lock_guard in(mutex);
         c.due = std::min(c.due, deadline);

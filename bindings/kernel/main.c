@@ -5,7 +5,6 @@
 int bounded_buffer_main(void);
 int single_resource_main(void);
 int alarm_clock_main(void);
-int time_limit_main(void);
 int disk_head_main(void);
 int stress_main(int words, char **word);
 void run_all(void);
@@ -39,7 +38,6 @@ void run_all(void) {
     run_example("bounded_buffer.c", bounded_buffer_main);
     run_example("single_resource.c", single_resource_main);
     run_example("alarm_clock.c", alarm_clock_main);
-    run_example("time_limit.c", time_limit_main);
     run_example("disk_head.c", disk_head_main);
     run_stress();
     run_handlers();

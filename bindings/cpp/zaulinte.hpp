@@ -218,9 +218,9 @@ template <class T, class C, class M = no_conditions> class monitor {
     }
 
   public:
-    // A place that is inside, with access to the data: a guard. Its destructor leaves. It can be moved: then the guard
-    // that it was moved to leaves, and the other refuses every call. If a thread that doesn't have the place destroys
-    // the guard, the program is terminated.
+    // A guard: a place that is inside, with access to the data. Its destructor leaves. It can be moved: afterwards the
+    // source refuses every call, and its destructor does nothing. If a thread that doesn't have the place destroys the
+    // guard, the program is terminated.
     class inside {
         monitor *of;
         unsigned number;
@@ -252,7 +252,8 @@ template <class T, class C, class M = no_conditions> class monitor {
       public:
         inside(inside &&i) noexcept
             : of(i.of), number(i.number), is(std::exchange(i.is, false)), entered(i.entered) {}
-        // First the place that this guard had leaves. So don't assign the result of an `enter` of the same monitor.
+        // First the place that this guard has leaves. If it is inside m, then `in = m.enter(k)` blocks for ever, since
+        // the enter comes before.
         inside &operator=(inside &&i) noexcept {
             if (this == &i) return *this;
             ends();
@@ -360,10 +361,11 @@ template <class M> class place {
     }
 };
 
-// A group of places of one monitor, which threads borrow: `group takers{m, 0, 60};` has the places 0 to 59. So more
-// threads than places may use the monitor. A thread that waits keeps its place. So threads that signal need a group of
-// their own: else all places may wait, and no thread that would signal gets one. By the number of such a place nobody
-// enters. A group outlives its guards, and is destroyed before its monitor.
+// A group of places of one monitor, which threads borrow, so that more threads than places can use the monitor:
+// `zaulinte::group takers{m, 0, 60};` has the places 0 to 59. A thread that waits keeps its place. So threads that
+// signal need a group of their own: else all places may wait, and no thread that would signal gets one. A build with
+// ZAULINTE_CHECKS ends the program at a wait after which all places of the monitor wait. No thread enters by the number
+// of a place that a group has. A group is destroyed after its guards, and before its monitor.
 template <class M> class group {
     zaulinte_group g{};
     M &of;
@@ -415,7 +417,7 @@ template <class M> class group {
 
       public:
         inside(inside &&) = default;
-        inside &operator=(inside &&i) noexcept {
+        inside &operator=(inside &&i) noexcept { // the place leaves, then it is given back
             M::inside::operator=(std::move(i));
             loan::operator=(std::move(i));
             return *this;

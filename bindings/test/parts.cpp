@@ -8,7 +8,9 @@
 #include <atomic>
 #include <cstdlib>
 #include <cstring>
+#include <thread>
 #include <unistd.h>
+#include <vector>
 
 static void is_on(int line, bool held) {
     if (!held) std::fprintf(stderr, "parts.cpp:%d: wrong\n", line), std::_Exit(1);
@@ -165,31 +167,55 @@ static void barriers(unsigned parties, long rounds) {
     is(lasts == 2 * rounds);
 }
 static void locks() {
-    constexpr long turns = 20, writers = 30, readers = 100;
+    constexpr long rounds = 20, writers = 30, readers = 100;
     parts::readers_writers lock;
     long left = 0, right = 0;
     std::atomic<int> reading{0};
     {
         threads all(writers, [&](unsigned) {
-            for (long i = 0; i < turns; i++) {
-                auto w = lock.write();
+            for (long i = 0; i < rounds; i++) {
+                auto writes = lock.write();
                 is(reading == 0);
-                left++, right++;
+                left++, std::this_thread::yield(), right++;
             }
         });
         all.add(readers, [&](unsigned) {
-            for (long i = 0; i < turns; i++) {
-                auto r = lock.read();
-                auto moved = std::move(r);
-                reading++;
+            for (long i = 0; i < rounds; i++) {
+                auto reads = lock.read();
+                auto moved = std::move(reads);
+                reading++, std::this_thread::yield();
                 is(left == right);
                 reading--;
             }
         });
-        auto one = lock.read(); // with other readers
     }
     auto one = lock.read(), other = lock.read();
-    is(left == writers * turns);
+    is(left == writers * rounds);
+}
+// Threads that read all the time, together, don't keep out a writer; nor do writers keep out a reader.
+static void turns() {
+    parts::readers_writers lock;
+    std::atomic<bool> is_written{false}, is_read{false};
+    {
+        threads all(20, [&](unsigned) {
+            while (!is_written) {
+                auto reads = lock.read();
+                sleep_for(2);
+            }
+        });
+        sleep_for(10);
+        auto writes = lock.write();
+        is_written = true;
+    }
+    threads all(5, [&](unsigned) {
+        while (!is_read) {
+            auto writes = lock.write();
+            sleep_for(2);
+        }
+    });
+    sleep_for(10);
+    auto reads = lock.read();
+    is_read = true;
 }
 
 using clock_time = parts::limit_clock::time;
@@ -229,23 +255,33 @@ class limited {
         while (givers.enter().count(may::take) < waiters) std::this_thread::yield();
     }
 };
-// The waiter that is due first gets the item; a later waiter with an earlier deadline is resumed in its time; waits
-// without a limit end by a signal alone.
+// Of the waiters the one that is due first gets an item. Meanwhile limits end in their time, with or without waiters
+// that are due later, before them or after them.
 static void limits_in_order() {
+    constexpr int hour = 3600000;
     parts::limit_clock clock;
     limited s(clock);
     std::atomic<unsigned> taken{0};
-    threads all(1, [&](unsigned) { is(s.take(parts::limit_clock::never)), is(taken++ == 2); });
+    auto takes = [&](clock_time deadline, unsigned turn) {
+        return [&s, &taken, deadline, turn](unsigned) { is(s.take(deadline) && taken++ == turn); };
+    };
+    auto ends = [&](unsigned k) {
+        auto deadline = in_ms(static_cast<int>(50 * k));
+        is(!s.take(deadline) && std::chrono::steady_clock::now() < deadline + std::chrono::seconds(30));
+    };
+    threads all(1, takes(parts::limit_clock::never, 3));
     s.await(1);
-    all.add(1, [&](unsigned) { is(s.take(in_ms(7200000))), is(taken++ == 1); });
+    all.add(1, takes(in_ms(2 * hour), 1));
     s.await(2);
-    all.add(1, [&](unsigned) { is(s.take(in_ms(3600000))), is(taken++ == 0); });
+    all.add(1, takes(in_ms(hour), 0));
     s.await(3);
-    for (int wait : {0, 20, 40}) {
-        auto deadline = in_ms(wait);
-        is(!s.take(deadline) && std::chrono::steady_clock::now() < deadline + std::chrono::seconds(20));
+    {
+        threads due(4, ends);
+        sleep_for(20);
+        all.add(1, takes(in_ms(3 * hour), 2));
     }
-    for (unsigned k = 0; k < 3; k++) s.give(), await(taken, k + 1);
+    s.await(4);
+    for (unsigned k = 0; k < 4; k++) s.give(), await(taken, k + 1);
 }
 // Two stores with one clock: each item is taken once, and waits end all the time.
 static void limits() {
@@ -260,7 +296,8 @@ static void limits() {
     std::atomic<long> taken{0}, late{0};
     {
         threads all(2 * takers, [&](unsigned k) {
-            while (taken < 2 * givers * each) ((k % 2 ? one : two).take(in_ms(1 + static_cast<int>(k % 9))) ? taken : late)++;
+            limited &s = k % 2 ? one : two;
+            while (taken < 2 * givers * each) (s.take(in_ms(1 + static_cast<int>(k % 9))) ? taken : late)++;
         });
         all.add(2 * givers, [&](unsigned k) {
             for (unsigned i = 0; i < each; i++) {
@@ -300,7 +337,7 @@ int main(int argc, char **argv) {
     latches();
     barriers(1, 10), barriers(5, 200), barriers(64, 5);
     is_refused(ZAULINTE_BAD_PLACES, [] { parts::barrier none(65); });
-    locks();
+    locks(), turns();
     limits_in_order();
     limits();
 }

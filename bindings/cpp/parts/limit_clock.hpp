@@ -11,12 +11,12 @@
 // The clock has a thread, which sleeps until the first deadline of all. Then it enters the monitor by its place, and
 // signals each waiter that is due, after it has set `is_over` in the data.
 //
-// The priority of a wait is its deadline. So a signal resumes the waiter that is due first; of equal deadlines the
-// longest waiting; and those without a limit last. A condition with limits can't order its waiters by anything else, and
-// each wait on it is by its `limit`, also those without a deadline (`limit_clock::never`).
+// The priority of a wait is its deadline. So a signal resumes the waiter that is due first, and of equal deadlines the
+// longest waiting; waiters without a limit (`limit_clock::never`) have UINT64_MAX, and come last. A condition with
+// limits can't order its waiters by anything else. Each wait on it is by its `limit`, or has a priority of UINT64_MAX.
 //
-// A waiter resumes as soon as it is signalled. So no item is lost: a wait that returns true finds what its signaller made
-// true, and one that returns false was signalled by the clock. In `ready`, expect what the waiter waits for, or
+// A waiter resumes as soon as it is signalled. So no item is lost: a wait that returns true finds what its signaller
+// made true, and one that returns false was signalled by the clock. In `ready`, expect what the waiter waits for, or
 // `is_over`; in `rest`, that `is_over` is false.
 #pragma once
 #include "zaulinte.hpp"
@@ -54,6 +54,7 @@ class limit_clock {
         earlier.notify_one();
         thread.join();
     }
+    // Adds a client, which isn't due before its first `arm`.
     void add(client &c) {
         std::lock_guard in(mutex);
         clients.push_back(&c);
@@ -64,7 +65,7 @@ class limit_clock {
         idle.wait(in, [&] { return visited != &c; });
         clients.erase(std::find(clients.begin(), clients.end(), &c));
     }
-    // Makes the clock call `resume_due` of the client at the deadline, or before. Inside of the client's monitor.
+    // Makes the clock call `resume_due` of the client at the deadline, or before. The caller is inside of its monitor.
     void arm(client &c, time deadline) {
         std::lock_guard in(mutex);
         c.due = std::min(c.due, deadline);
@@ -89,7 +90,7 @@ class limit_clock {
             sleeps_until = first == clients.end() ? never : (*first)->due;
             if (sleeps_until <= now) visit(**first, now, lock);
             else if (sleeps_until == never) earlier.wait(lock);
-            else earlier.wait_until(lock, time(sleeps_until));
+            else earlier.wait_until(lock, sleeps_until);
         }
     }
     void visit(client &c, time now, std::unique_lock<std::mutex> &lock) {
@@ -102,7 +103,8 @@ class limit_clock {
     }
 };
 
-// The limits of the waits on one of Hoare's conditions of a monitor. Destroy it before the monitor, once no thread waits.
+// The limits of the waits on one of Hoare's conditions of a monitor. Destroy it before the monitor, once no thread
+// waits.
 template <class M> class limit : limit_clock::client {
     using time = limit_clock::time;
     limit_clock &clock;

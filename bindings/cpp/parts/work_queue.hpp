@@ -1,4 +1,4 @@
-// work_queue.hpp: a bounded queue between threads that submit and threads that take. A part to copy. NOT PROVED, tested.
+// work_queue.hpp: a bounded queue between threads that submit and that take. A part to copy. NOT PROVED, tested.
 //
 //     parts::work_queue<job> jobs{100};            // at most 100 jobs are in it
 //     if (!jobs.submit(one)) return;               // it is closed
@@ -42,8 +42,8 @@ template <class T> class work_queue {
         m.check({inv, rest, ready});
     }
 
-    // Puts an item at the end, and returns true. Blocks while the queue is full. Returns false if the queue is closed:
-    // the item is dropped. Allocates, and moves the item, before it enters: so if that throws, nothing happened.
+    // Puts an item at the end, and returns true. Blocks while the queue is full and open. Returns false if it is
+    // closed: the item is dropped. Allocates, and moves the item, before it enters: if that throws, nothing happened.
     bool submit(T item) {
         std::list<T> one;
         one.push_back(std::move(item));
@@ -54,8 +54,8 @@ template <class T> class work_queue {
         in.signal_leave(is_open ? queue_is::nonempty : queue_is::nonfull); // closed: the next submitter that waits
         return is_open;
     }
-    // Removes the first item and returns it. Blocks while the queue is empty. Returns nothing if the queue is closed and
-    // empty.
+    // Removes the first item and returns it. Blocks while the queue is empty and open. Returns nothing if it is empty
+    // and closed.
     std::optional<T> take() {
         std::list<T> one = first();
         if (one.empty()) return std::nullopt;

@@ -53,9 +53,9 @@ impl Free {
 /// `let mut place = takers.borrow(); let mut inside = place.enter()?;`; or it keeps the place for as long as it likes,
 /// and is attached.
 ///
-/// **A thread that waits keeps its place.** So the threads that signal need a group of their own. If they share one with
-/// the threads that wait, all places may wait, and then no thread that would signal gets a place: all sleep for ever. A
-/// debug build panics at the wait by which all places of the monitor wait.
+/// **A thread that waits keeps its place.** So the threads that signal need a group of their own. If they share one
+/// with the threads that wait, all places may wait, and then no thread that would signal gets a place: all sleep for
+/// ever. A debug build panics at the wait by which all places of the monitor wait.
 ///
 /// Not specified: which of several threads that want a place gets it first. `{group:?}` shows how many places are free,
 /// and how many threads sleep until one is.
@@ -68,9 +68,10 @@ pub struct Places<T, C, M = NoConditions, P: Port = DefaultPort> {
 // SAFETY: a shared group moves places between threads, each of which is used by one thread at a time
 unsafe impl<T, C, M, P: Port> Sync for Places<T, C, M, P> where Place<T, C, M, P>: Send {}
 
-/// A place that was borrowed from its group [`Places`]: it derefs to the [`Place`]. It is given back when it is dropped,
-/// so also if the thread panics. If the place is still inside then, since a guard was forgotten (`mem::forget`), it
-/// leaves first. If a `Borrowed` is forgotten itself, no other thread gets its place, until [`Places::into_inner`].
+/// A place that was borrowed from its group [`Places`]: it derefs to the [`Place`]. It is given back when it is
+/// dropped, so also if the thread panics. If the place is still inside then, since a guard was forgotten
+/// (`mem::forget`), it leaves first. If a `Borrowed` is forgotten itself, no other thread gets its place, until
+/// [`Places::into_inner`].
 #[must_use = "the place is given back at once if it is unused"]
 pub struct Borrowed<'a, T, C, M = NoConditions, P: Port = DefaultPort> {
     group: &'a Places<T, C, M, P>,

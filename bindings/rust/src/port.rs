@@ -5,9 +5,9 @@ use core::sync::atomic::AtomicU32;
 /// of std, with the feature `std`. For another platform, a kernel say, write your own, and make the monitor by
 /// [`Monitor::with_port`](crate::Monitor::with_port).
 ///
-/// Each word on which threads sleep has a value of the port beside it: one word for each place, one for the threads that
-/// wait to enter, and one for those that wait to borrow from a group [`Places`](crate::Places). The value has what the
-/// platform needs there: std's has a mutex and a condition variable; one over futexes needs nothing.
+/// Each word on which threads sleep has a value of the port beside it: one word for each place, one for the threads
+/// that wait to enter, and one for those that wait to borrow from a group [`Places`](crate::Places). The value has what
+/// the platform needs there: std's has a mutex and a condition variable; one over futexes needs nothing.
 ///
 /// A port that spins, for threads that each have a processor of their own:
 ///

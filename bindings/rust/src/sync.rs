@@ -1,6 +1,6 @@
-//! The words and the condition variables by which threads sleep, and the word of a group's free places. A build with std and `--cfg zaulinte_races` is for
-//! tests: a thread may yield before and after each access, at drawn moments, so that threads meet in orders that are
-//! rare otherwise.
+//! The words and the condition variables by which threads sleep, and the word of a group's free places. A build with
+//! std and `--cfg zaulinte_races` is for tests: a thread may yield before and after each access, at drawn moments, so
+//! that threads meet in orders that are rare otherwise.
 
 #[cfg(not(all(feature = "std", zaulinte_races)))]
 pub(crate) use core::sync::atomic::{AtomicU32, AtomicU64};

@@ -65,14 +65,16 @@ E0597 data_die_before_their_monitor: let (m, p); let x = String::new(); (m, p) =
 E0277 a_group_of_an_rc_is_shared: is_sync::<Places<Rc<u32>, When, Mesa>>();
 E0277 a_borrowed_place_of_an_rc_is_sent: is_send::<Borrowed<'static, Rc<u32>, When, Mesa>>();
 E0277 a_borrowed_place_of_an_rc_is_shared: is_sync::<Borrowed<'static, Rc<u32>, When, Mesa>>();
-E0505 a_group_ends_while_a_place_is_borrowed: let g = Places::new(p).unwrap(); let b = g.borrow(); g.into_inner(); drop(b);
+E0505 a_group_ends_while_a_place_is_borrowed: let g = Places::new(p).unwrap(); \
+    let b = g.borrow(); g.into_inner(); drop(b);
 E0505 a_borrowed_place_is_given_back_inside: let g = Places::new(p).unwrap(); let mut b = g.borrow(); \
     let i = b.enter().unwrap(); drop(b); drop(i);
 E0499 two_guards_of_a_borrowed_place: let g = Places::new(p).unwrap(); let mut b = g.borrow(); \
     let i = b.enter().unwrap(); let j = b.try_enter(); drop(i);
 E0507 a_borrowed_place_is_kept: let g = Places::new(p).unwrap(); let b = g.borrow(); let a: Seat<u32> = *b;
 lifetime a_group_is_covariant: fn f<'a>(g: Places<&'static str, When>) -> Places<&'a str, When> { g }
-lifetime a_borrowed_place_is_covariant: fn f<'b, 'a>(p: Borrowed<'b, &'static str, When>) -> Borrowed<'b, &'a str, When> { p }
+lifetime a_borrowed_place_is_covariant: \
+    fn f<'b, 'a>(p: Borrowed<'b, &'static str, When>) -> Borrowed<'b, &'a str, When> { p }
 E0277 a_guard_goes_to_a_scoped_thread: let mut i = p[0].enter().unwrap(); thread::scope(|s| { s.spawn(|| *i = 1); });
 E0277 a_cell_s_guard_is_shared: let (m, mut p) = Of::new(Cell::new(0), 1).unwrap(); let i = p[0].enter().unwrap(); \
     thread::scope(|s| { s.spawn(|| i.set(1)); });

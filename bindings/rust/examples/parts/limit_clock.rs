@@ -1,13 +1,14 @@
-//! A wait with a time limit. One thread keeps the time for any number of monitors: it sleeps until the first deadline of
-//! all that wait with one, and then resumes each waiter that is due.
+//! A wait with a time limit. One thread keeps the time for any number of monitors: it sleeps until the first deadline
+//! of all that wait with one, and then resumes each waiter that is due.
 //!
-//! A waiter waits with its deadline as the priority. So the limits order the waiters of that condition: a signal resumes
-//! the waiter that is due first, and waiters without a limit last; of equal limits, the longest waiting. Their
+//! A waiter waits with its deadline as the priority. So the limits order the waiters of that condition: a signal
+//! resumes the waiter that is due first, and waiters without a limit last; of equal limits, the longest waiting. Their
 //! priorities can't order them by anything else.
 //!
 //! The clock thread enters a monitor by a place of its own, which never waits. Before it resumes a waiter it tells it,
 //! in the data, that its time is over. It hands the monitor off, so nothing happens in between: a waiter that another
-//! thread resumed finds what it waited for, even if its time is over too.
+//! thread resumed finds what it waited for, even if its time is over too. A limit isn't kept to the moment: the clock
+//! thread waits until the monitor is free, and visits one monitor after the other.
 use std::mem::take;
 use std::sync::{Arc, Condvar, Mutex, MutexGuard, PoisonError};
 use std::thread::{spawn, JoinHandle};

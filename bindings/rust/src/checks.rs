@@ -103,7 +103,7 @@ impl<T, C: Condition, M: Condition, P: Port> Inside<'_, T, C, M, P> {
         waiting
     }
 
-    fn is_tested(&self) -> bool {
+    pub(crate) fn is_tested(&self) -> bool {
         cfg!(debug_assertions) && !self.place.inner.is_poisoned() && !P::panicking()
     }
 

@@ -13,7 +13,7 @@ extern "C" {
     fn zaulinte_door_leave(place: &mut Handle) -> u64;
     fn zaulinte_door_wait(place: &mut Handle, condition: u64, priority: u64) -> u64;
     fn zaulinte_door_signal(place: &mut Handle, condition: u64) -> u64;
-    fn zaulinte_door_signal_leave(place: &mut Handle, condition: u64) -> u64;
+    fn zaulinte_door_signal_leave(place: &mut Handle, condition: u64, resumed: &mut u64) -> u64;
     fn zaulinte_door_notify(place: &mut Handle, condition: u64) -> u64;
     fn zaulinte_door_broadcast(place: &mut Handle, condition: u64) -> u64;
     fn zaulinte_door_try_return(place: &mut Handle) -> u64;
@@ -124,9 +124,13 @@ impl Seat {
         next(unsafe { zaulinte_door_signal(&mut self.handle, condition as u64) })
     }
 
-    /// Signals the condition and leaves, in one step.
-    pub(crate) fn signal_leave(&mut self, condition: usize) -> Next {
-        next(unsafe { zaulinte_door_signal_leave(&mut self.handle, condition as u64) })
+    /// Signals the condition and leaves, in one step. Sets `has_waited` to true if a place waited on the condition: then
+    /// that place is next.
+    pub(crate) fn signal_leave(&mut self, condition: usize, has_waited: &mut bool) -> Next {
+        let mut resumed = 0;
+        let next = next(unsafe { zaulinte_door_signal_leave(&mut self.handle, condition as u64, &mut resumed) });
+        *has_waited = resumed == 1;
+        next
     }
 
     /// Notifies the place that a signal would resume. Returns how many were notified, 1 or 0.

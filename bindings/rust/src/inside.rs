@@ -95,9 +95,9 @@ impl<'a, T, C: Condition, M: Condition, P: Port> Inside<'a, T, C, M, P> {
     /// Signals one of Hoare's conditions as the last act. Returns true if a place waited on it.
     #[track_caller]
     pub fn signal_leave(mut self, condition: C) -> bool {
-        let number = number_of(condition);
-        if !self.place.seat.queue(number) {
-            return false; // it leaves as it is dropped
+        let (number, mut has_waited) = (number_of(condition), false);
+        if self.is_tested() && !self.place.seat.queue(number) {
+            return false; // it leaves as it is dropped, with the tests of a leave
         }
         self.check_signal(condition);
         if self.unwinds() {
@@ -105,8 +105,8 @@ impl<'a, T, C: Condition, M: Condition, P: Port> Inside<'a, T, C, M, P> {
         }
         self.own().signaller = self.place.seat.number();
         self.place.record(Kind::Pass, number, 0);
-        self.place.go_outside(|seat| seat.signal_leave(number));
-        true
+        self.place.go_outside(|seat| seat.signal_leave(number, &mut has_waited));
+        has_waited
     }
 
     /// Notifies the waiter on a Mesa condition that a signal would resume, and stays inside. Returns true if a place

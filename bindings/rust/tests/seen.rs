@@ -114,7 +114,8 @@ fn a_place_that_only_entered_is_recorded() {
     assert_eq!(monitor.recording().unwrap(), "monitor 2 2 0\nenter 1\n");
     drop(guard);
     assert!(!places[0].enter().unwrap().signal_leave(Of::NonFull));
-    assert_eq!(monitor.recording().unwrap(), "monitor 2 2 0\nenter 1\nleave 1\nenter 0\nleave 0\n");
+    let last = if cfg!(debug_assertions) { "leave 0" } else { "pass 0 1" }; // the same: no place waits
+    assert_eq!(monitor.recording().unwrap(), format!("monitor 2 2 0\nenter 1\nleave 1\nenter 0\n{last}\n"));
 }
 
 #[test]

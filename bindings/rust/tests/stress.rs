@@ -107,12 +107,13 @@ fn signals(inside: &mut Inside<'_>, me: u64, c: u64) {
 }
 
 fn passes(mut inside: Inside<'_>, me: u64, c: u64) {
-    if inside.queue(hoare(c)) {
+    let was = inside.queue(hoare(c));
+    if was {
         inside.put("pass", &[me, c]);
     } else {
         inside.put("leave", &[me]);
     }
-    inside.signal_leave(hoare(c));
+    assert_eq!(inside.signal_leave(hoare(c)), was);
 }
 
 fn acts(mut inside: Inside<'_>, me: u64, seed: &mut u64) {

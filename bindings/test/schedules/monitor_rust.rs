@@ -1,13 +1,13 @@
 //! The programs' letters (programs.c) as calls of the running monitor for Rust. A place that two threads compete for,
-//! and `free`, can't be written in Rust. Besides: x the thread panics inside; F it forgets its guard; d it drops its
-//! place, and ends.
+//! and the letters that free, can't be written in Rust. Besides: x the thread panics inside; F it forgets its guard;
+//! d it drops its place, and ends.
 #![no_std]
 extern crate alloc;
 mod rust_world;
 
 use core::ffi::{c_char, CStr};
 use core::ptr::null;
-use rust_world::{fail, kept, x_inside, x_touch, Explored, NOBODY};
+use rust_world::{fail, kept, x_await, x_inside, x_tell, x_touch, Explored, NOBODY};
 use zaulinte::{conditions, Checks, LockResult, Monitor};
 
 conditions! { enum Hoare { Item } }
@@ -20,6 +20,8 @@ struct Data {
 }
 
 type Place = zaulinte::Place<Data, Hoare, Mesa, Explored>;
+type Group = zaulinte::Places<Data, Hoare, Mesa, Explored>;
+type Borrowed = zaulinte::Borrowed<'static, Data, Hoare, Mesa, Explored>;
 type Inside<'a> = zaulinte::Inside<'a, Data, Hoare, Mesa, Explored>;
 
 #[repr(C)]
@@ -29,6 +31,7 @@ pub struct Program {
     places: u32,
     hoare: u32,
     mesa: u32,
+    groups: *const c_char,
 }
 
 #[no_mangle]
@@ -42,7 +45,13 @@ pub extern "C" fn x_make(program: &Program) {
         monitor.record(&mut places, 4).unwrap();
     }
     drop(monitor); // its places keep what they share
-    rust_world::keep(places);
+    if program.groups.is_null() {
+        return rust_world::keep(places);
+    }
+    let sizes = unsafe { CStr::from_ptr(program.groups) }.to_bytes();
+    let mut group =
+        |size: &u8| Group::with_port(places.drain(..usize::from(size - b'0')).collect(), ports.next().unwrap());
+    rust_world::keep_groups(sizes.iter().map(|size| group(size).unwrap()).collect());
 }
 
 #[no_mangle]
@@ -59,20 +68,50 @@ pub extern "C" fn x_finished() -> *const c_char {
 
 #[no_mangle]
 pub extern "C" fn x_run(_: u32, number: u32, script: *const c_char) {
-    let place = rust_world::place(number);
-    let letters = unsafe { CStr::from_ptr(script) }.to_bytes().iter().copied();
-    let mut letters = letters.filter(|letter| *letter != b' ' && !letter.is_ascii_digit());
+    let script = unsafe { CStr::from_ptr(script) }.to_bytes();
+    let mut letters = script.iter().copied().filter(|letter| *letter != b' ' && !letter.is_ascii_digit());
+    let mut groups = script.windows(2).filter(|pair| b"gh".contains(&pair[0])).map(|pair| usize::from(pair[1] - b'0'));
+    let mut borrowed: [Option<Borrowed>; 2] = [None, None]; // the last before the others
     while let Some(letter) = letters.next() {
         match letter {
-            b'e' => visit(place.enter(), number, &mut letters),
-            b't' => match place.try_enter() {
-                Some(entered) => visit(entered, number, &mut letters),
+            b'g' | b'h' => match borrow(letter, groups.next().unwrap()) {
+                Some(place) => borrowed = [Some(place), borrowed[0].take()],
                 None => return,
             },
+            b'r' => {
+                kept().lent[of(&mut borrowed, number).number()] = false;
+                borrowed = [borrowed[1].take(), None];
+            }
+            b'!' => unsafe { x_tell(&mut kept().said, 1) },
+            b'@' => unsafe { x_await(&kept().said, 1) },
+            b'G' => {} // a group that is in use can't be dropped in Rust
+            b'e' | b't' if enters(of(&mut borrowed, number), letter, &mut letters) => {}
+            b't' => return,
             b'd' => return rust_world::drop_place(number),
             _ => fail(c"no such letter outside"),
         }
     }
+}
+
+/// Returns the place that the thread borrowed last, or else its own.
+fn of(borrowed: &mut [Option<Borrowed>; 2], number: u32) -> &mut Place {
+    borrowed[0].as_deref_mut().unwrap_or_else(|| rust_world::place(number))
+}
+
+fn enters(place: &mut Place, letter: u8, letters: &mut impl Iterator<Item = u8>) -> bool {
+    let number = place.number() as u32;
+    let entered = if letter == b'e' { Some(place.enter()) } else { place.try_enter() };
+    entered.map(|entered| visit(entered, number, letters)).is_some()
+}
+
+fn borrow(letter: u8, group: usize) -> Option<Borrowed> {
+    let group = rust_world::group(group);
+    let place = if letter == b'g' { group.borrow() } else { group.try_borrow()? };
+    let lent = &mut kept().lent[place.number()];
+    if core::mem::replace(lent, true) {
+        fail(c"a place is lent to two threads")
+    }
+    Some(place)
 }
 
 fn visit(entered: LockResult<Inside<'_>>, number: u32, letters: &mut impl Iterator<Item = u8>) {

@@ -1,5 +1,5 @@
 //! What the explored world (explore.h) is to the crate: its memory, its port, and the names of its words.
-use crate::Place;
+use crate::{Group, Place};
 use alloc::vec::Vec;
 use core::alloc::{GlobalAlloc, Layout};
 use core::ffi::{c_char, c_void, CStr};
@@ -23,6 +23,8 @@ extern "C" {
     fn x_fail(what: *const c_char) -> !;
     pub fn x_me() -> u32;
     pub fn x_touch(place: u32);
+    pub fn x_tell(word: *mut u32, is: u32);
+    pub fn x_await(word: *const u32, is: u32);
     pub fn x_inside() -> u32;
 }
 
@@ -42,6 +44,10 @@ extern "C" fn rust_eh_personality() {}
 /// What changes with the world beside the monitor: it lies in the world's memory.
 pub struct Kept {
     pub panics: [bool; THREADS],
+    /// The places that are borrowed.
+    pub lent: [bool; THREADS],
+    /// 1 once a thread said that it is inside.
+    pub said: u32,
     /// The pieces of memory that are in use.
     pieces: usize,
     pub dropped: usize,
@@ -52,10 +58,15 @@ struct Made {
     kept: *mut Kept,
     places: *mut Place,
     many: usize,
-    /// The pieces of memory on cache lines of their own: the places' words, their notes, and what all share.
-    lines: [(usize, usize); 3],
+    groups: *mut Group,
+    /// For each place, or each borrowed place, its address.
+    at: [usize; THREADS],
+    /// The pieces of memory on cache lines of their own: the places' words, their notes, what all share, and the groups.
+    lines: [(usize, usize); 4],
 }
-static mut MADE: Made = Made { kept: null_mut(), places: null_mut(), many: 0, lines: [(0, 0); 3] };
+const NOTHING: Made =
+    Made { kept: null_mut(), places: null_mut(), many: 0, groups: null_mut(), at: [0; THREADS], lines: [(0, 0); 4] };
+static mut MADE: Made = NOTHING;
 
 fn made() -> &'static mut Made {
     unsafe { &mut *addr_of_mut!(MADE) }
@@ -68,12 +79,31 @@ pub fn kept() -> &'static mut Kept {
 pub fn begin() {
     let kept = unsafe { x_room(size_of::<Kept>(), 8) };
     unsafe { x_own(kept, size_of::<Kept>()) };
-    *made() = Made { kept: kept.cast(), places: null_mut(), many: 0, lines: [(0, 0); 3] };
+    *made() = Made { kept: kept.cast(), ..NOTHING };
 }
 
 pub fn keep(places: Vec<Place>) {
     let places = Vec::leak(places);
     (made().places, made().many) = (places.as_mut_ptr(), places.len());
+    places.iter().for_each(note_at);
+}
+
+pub fn keep_groups(groups: Vec<Group>) {
+    let groups = Vec::leak(groups);
+    made().groups = groups.as_mut_ptr();
+    for group in groups.iter() {
+        let all: Vec<_> = core::iter::from_fn(|| group.try_borrow()).collect();
+        all.iter().for_each(|place| note_at(place));
+        made().many += all.len();
+    }
+}
+
+fn note_at(place: &Place) {
+    made().at[place.number()] = place as *const Place as usize;
+}
+
+pub fn group(number: usize) -> &'static Group {
+    unsafe { &*made().groups.add(number) }
 }
 
 pub fn place(number: u32) -> &'static mut Place {
@@ -175,12 +205,8 @@ unsafe impl Port for Explored {
 
 #[no_mangle]
 pub extern "C" fn x_place_of(handle: usize) -> u32 {
-    let place = handle.wrapping_sub(made().places as usize) / size_of::<Place>();
-    if place < made().many {
-        place as u32
-    } else {
-        NOBODY
-    }
+    let is_in = |&from: &usize| (from..from + size_of::<Place>()).contains(&handle);
+    made().at.iter().position(is_in).map_or(NOBODY, |place| place as u32)
 }
 
 const PLACES: [&CStr; THREADS] = [c"of place 0", c"of place 1", c"of place 2", c"of place 3"];
@@ -203,7 +229,9 @@ fn word_in(piece: usize, at: usize) -> &'static CStr {
     let marks = (line..line + LINE).step_by(8).map(|word| unsafe { (word as *const u64).read() }.wrapping_sub(MARK));
     match marks.min() {
         Some(number) if number == made().many as u64 => c"the entrance's word",
-        Some(number) if number < THREADS as u64 => WORDS[number as usize],
+        Some(number) if number < made().many as u64 => WORDS[number as usize],
+        Some(number) if number < 2 * THREADS as u64 => c"a group's word",
+        _ if piece == made().lines[3].0 => c"a word of a group",
         _ if piece == made().lines[1].0 => NOTES[(line - piece) / LINE],
         _ if at < piece + OWNERS => c"the number of owners",
         _ => c"a word of the monitor",

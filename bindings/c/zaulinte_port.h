@@ -23,7 +23,7 @@
  *   port_thread()         returns a number of the calling thread, not 0, that no other living thread has.
  *
  * Why no wake-up is lost, here and in Rust: docs/WAKING.md. */
-#include "zaulinte_version.h" /* an installed one has the choices of the library */
+#include "zaulinte_version.h" /* an installed one has the port of the library */
 #ifndef ZAULINTE_PORT
 #ifdef __linux__
 #define ZAULINTE_PORT "zaulinte_port_futex.h"

@@ -102,7 +102,7 @@ typedef struct zaulinte_group {
 } zaulinte_group;
 
 /* A monitor. Start with `static zaulinte_monitor m;`, with memory that is all zero at an address that is a multiple of
- * 64, or with `zaulinte_new`. It has a size of some 4 KB, with condition variables of some 8 KB; `zaulinte_new`
+ * 64, or with `zaulinte_new`. It has a size of some 4 KB, with condition variables of some 12 KB; `zaulinte_new`
  * allocates only the places that there are. */
 typedef struct zaulinte_monitor {
     alignas(64) zaulinte_bell entrance; /* entering threads sleep on it */

@@ -38,6 +38,20 @@ static void check_leave(zaulinte_monitor *m, uint32_t place) {
     test_inv(m, place, "leaves", "");
     test_rest(m, place, "leaves", "", waiting(m, place));
 }
+/* Prints a line, once, if threads want a place of the group and all of its places wait. */
+static void check_group(zaulinte_group *g) {
+    uint64_t others = g->all;
+    atomic_thread_fence(memory_order_seq_cst); /* the last place to wait sees the thread, or the thread sees its note */
+    for (uint32_t k = 0; k < g->of->places; k++)
+        if (NOTED(g->of->place[k].away) == WAITS) others &= ~(UINT64_C(1) << k);
+    if (others || !atomic_load(&g->sleepers) || atomic_exchange(&g->was_named, true)) return;
+    print_where(g->of);
+    fputs("all places of a group wait, and a thread wants one. Threads that signal need other places:\n", stderr);
+    print_group(g);
+}
+static void check_groups(zaulinte_monitor *m) {
+    for (zaulinte_group *g = m->groups; g; g = g->next) check_group(g);
+}
 static void check_wait(zaulinte_monitor *m, uint32_t place, uint32_t c, uint64_t priority) {
     if (c >= m->conditions) return;
     condition_name name = name_of(m, c);
@@ -93,6 +107,8 @@ static void check_address(zaulinte_monitor *m) {
 #define check_signal_leave(m, place, condition) ((void)(m))
 #define check_ready(m, place, condition, priority) ((void)(m))
 #define check_enter(m, place) ((void)(m))
+#define check_group(g) ((void)(g))
+#define check_groups(m) ((void)(m))
 #define check_exchange(m, place, condition) ((void)(condition))
 #define note_address(m) ((void)(m))
 #define check_address(m) ((void)(m))

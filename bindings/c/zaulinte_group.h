@@ -13,6 +13,7 @@ static uint64_t take_free(zaulinte_group *g) {
 APART uint64_t sleeps_for_place(zaulinte_group *g) {
     uint64_t taken = 0;
     atomic_fetch_add(&g->sleepers, 1);
+    check_group(g);
     while (!taken) {
         /* sequentially consistent, as the attempt after it: docs/WAKING.md */
         atomic_exchange(&g->bell.word, ASLEEP);
@@ -61,6 +62,7 @@ uint64_t zaulinte_group_make(zaulinte_group *g, zaulinte_monitor *m, uint32_t fi
         if ((*last)->all & all) return ZAULINTE_IN_USE;
     port_make(&g->bell);
     g->free = g->all = all;
+    g->was_named = false;
     g->of = m, g->next = NULL, *last = g;
     return 0;
 }

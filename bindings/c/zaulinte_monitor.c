@@ -164,6 +164,7 @@ uint64_t zaulinte_wait(ON, uint64_t priority) {
     check_wait(m, place, condition, priority);
     NOTE_ACT(WAIT, condition, priority);
     note_away(m, place, WAITS, condition, priority);
+    check_groups(m);
     visit_ends(m);
     uint64_t next = zaulinte_door_wait(at(m, place), condition, priority);
     if (next > NOBODY) return note_here(m, place), next;
@@ -186,7 +187,8 @@ uint64_t zaulinte_signal(ON, bool *resumed) {
     return 0;
 }
 uint64_t zaulinte_signal_leave(ON, bool *resumed) {
-    uint64_t waited = 0, refused = may_act_on(m, place, condition); /* MemorySanitizer doesn't see the archive's write */
+    uint64_t waited = 0; /* MemorySanitizer doesn't see that the archive writes it */
+    uint64_t refused = may_act_on(m, place, condition);
     if (refused) return refused;
     check_signal_leave(m, place, condition);
     NOTE_ACT(PASS, condition, 0);
@@ -263,7 +265,7 @@ uint64_t zaulinte_make(zaulinte_monitor *m, uint64_t places, uint64_t conditions
     return 0;
 }
 uint64_t zaulinte_free(zaulinte_monitor *m) {
-    if (has_threads(m)) return ZAULINTE_IN_USE;
+    if (has_threads(m) || (m->places && m->groups)) return ZAULINTE_IN_USE;
     return m->places ? undo(m, m->places, 0) : ZAULINTE_NO_BOOK;
 }
 #include "zaulinte_group.h"

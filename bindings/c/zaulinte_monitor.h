@@ -97,6 +97,7 @@ typedef struct zaulinte_group {
     ZAULINTE_WORD(uint32_t) sleepers; /* these threads: asleep, about to sleep, or woken and without a place yet */
     ZAULINTE_WORD(uint64_t) free;     /* a bit for each place that no thread has borrowed */
     uint64_t all;                     /* a bit for each place. 0: there is no group */
+    ZAULINTE_WORD(bool) was_named;    /* that all of its places wait */
     struct zaulinte_monitor *of;
     struct zaulinte_group *next; /* of the same monitor */
 } zaulinte_group;
@@ -147,8 +148,8 @@ static const char *const zaulinte_asks_for = &ZAULINTE_BUILD;
  * Mesa conditions, 111 an allocation failed. */
 ZAULINTE_CODE zaulinte_make(zaulinte_monitor *m, uint64_t places, uint64_t conditions, uint64_t mesa);
 /* Frees what `zaulinte_make` made, and returns 0; there is no monitor then. Refused: 107 there is no monitor; 112 a
- * thread has a place, which is inside or waits, or the thread is in a call. A refusal changes nothing. The caller joins
- * the threads first, so that none begins a call meanwhile. */
+ * thread has a place, which is inside or waits, or the thread is in a call; or a group of the monitor isn't freed. A
+ * refusal changes nothing. The caller joins the threads first, so that none begins a call meanwhile. */
 ZAULINTE_CODE zaulinte_free(zaulinte_monitor *m);
 
 /* The calls of a place. Each returns 0, or a refusal, and then nothing happened.
@@ -185,20 +186,22 @@ ZAULINTE_CODE zaulinte_notify(zaulinte_monitor *m, uint32_t place, uint32_t cond
 /* Lets `place` notify all waiters on the Mesa condition `condition`, and returns 0. Writes their number, at most 63, to
  * *called, which may be NULL. Refused as `notify`. */
 ZAULINTE_CODE zaulinte_broadcast(zaulinte_monitor *m, uint32_t place, uint32_t condition, uint64_t *called);
-/* Writes to *waits true if a place waits on `condition` (a notified place doesn't), else false, and returns 0. Refused:
- * 107, 101, 103, 104, 105; *waits then stays. */
+/* Writes to *waits true if a place waits on `condition` (a notified place doesn't), else false, and returns 0. `waits`
+ * may be NULL. Refused: 107, 101, 103, 104, 105; *waits then stays. */
 ZAULINTE_CODE zaulinte_queue(zaulinte_monitor *m, uint32_t place, uint32_t condition, bool *waits);
 /* As `queue`; if a place waits on `condition`, also writes the priority of the place that a signal would resume to
  * *priority, which stays otherwise. Either pointer may be NULL. Refused as `queue`. */
 ZAULINTE_CODE zaulinte_first(zaulinte_monitor *m, uint32_t place, uint32_t condition, bool *waits, uint64_t *priority);
-/* Writes the number of places that wait on `condition` to *count, which may be NULL, and returns 0. Refused: 101, 103,
- * 104, 105; *count then stays. */
+/* Writes the number of places that wait on `condition` to *count, which may be NULL, and returns 0. Refused as
+ * `queue`; *count then stays. */
 ZAULINTE_CODE zaulinte_count(zaulinte_monitor *m, uint32_t place, uint32_t condition, uint64_t *count);
 
 /* More threads than places. A thread borrows a place of a group, for one visit or for as long as it lives, and calls
  * with its number. A thread that waits keeps its place. So those threads that signal need a group of their own: else
- * all places may wait, and no thread gets one to signal. A build with ZAULINTE_CHECKS ends the program at a wait after
- * which all places of a monitor wait, and a dump shows what each group has lent.
+ * all places may wait, and no thread gets one to signal. A build with ZAULINTE_CHECKS prints a line, once for each
+ * group, if all of its places wait and a thread wants one; and it ends the program at a wait after which all places of
+ * a monitor wait. A dump shows what each group has lent. No thread calls with the number of a place of a group that it
+ * hasn't borrowed.
  *
  * Makes a group of the `count` places of `m` from `first` on, and returns 0. Call it before threads borrow of any group
  * of `m`. Refused, in this order: 108 there is a group already, 107 there is no monitor, 109 it hasn't these places, or
@@ -239,6 +242,12 @@ void zaulinte_at(const char *file, int line);
 #define zaulinte_signal(m, place, condition, resumed) ZAULINTE_HERE(zaulinte_signal(m, place, condition, resumed))
 #define zaulinte_signal_leave(m, place, condition, resumed) \
     ZAULINTE_HERE(zaulinte_signal_leave(m, place, condition, resumed))
+#define zaulinte_notify(m, place, condition, called) ZAULINTE_HERE(zaulinte_notify(m, place, condition, called))
+#define zaulinte_broadcast(m, place, condition, called) ZAULINTE_HERE(zaulinte_broadcast(m, place, condition, called))
+#define zaulinte_queue(m, place, condition, waits) ZAULINTE_HERE(zaulinte_queue(m, place, condition, waits))
+#define zaulinte_first(m, place, condition, waits, priority) \
+    ZAULINTE_HERE(zaulinte_first(m, place, condition, waits, priority))
+#define zaulinte_count(m, place, condition, count) ZAULINTE_HERE(zaulinte_count(m, place, condition, count))
 #endif
 #endif
 

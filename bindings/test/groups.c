@@ -1,6 +1,6 @@
 /* Groups of places (zaulinte_group_make): their codes, and more threads than places. In `groups all` takers borrow all
  * places of the monitor, and wait: with ZAULINTE_CHECKS the program ends by a line that says so. `groups lent` prints a
- * dump in which a group has lent all of its places. */
+ * dump in which a group has lent all of its places. In `groups waits` they wait, and a thread wants one. */
 #include "zaulinte_monitor.h"
 #include <inttypes.h>
 #include <pthread.h>
@@ -56,8 +56,8 @@ static void runs(int threads) {
     for (int k = 0; k < threads; k++) pthread_join(ids[k], NULL);
     IS((uint64_t)store.taken, TAKERS);
 }
-/* Threads borrow and give back at once, and more than one place is free at a time. If a wake-up is lost, a thread sleeps
- * for ever. */
+/* Threads borrow and give back at once, and more than one place is free at a time. If a wake-up is lost, a thread
+ * sleeps for ever. */
 enum { THREADS = 8, FEW = 3, TURNS = 2000 };
 static void *turns(void *unused) {
     for (int n = 0; n < TURNS; n++) gives_back(&givers, borrows(&givers));
@@ -82,6 +82,7 @@ static void refused_makes(void) {
     ZAULINTE_CHECK(zaulinte_group_make(&takers, &store.m, 0, FOR_TAKERS));
     IS(zaulinte_group_make(&takers, &store.m, FOR_TAKERS, 1), ZAULINTE_IS_MADE);
     IS(zaulinte_group_make(&other, &store.m, FOR_TAKERS - 1, 2), ZAULINTE_IN_USE);
+    IS(zaulinte_free(&store.m), ZAULINTE_IN_USE);
     ZAULINTE_CHECK(zaulinte_group_make(&givers, &store.m, FOR_TAKERS, PLACES - FOR_TAKERS));
     ZAULINTE_CHECK(zaulinte_group_free(&takers));
     IS(zaulinte_group_make(&other, &store.m, PLACES - 1, 1), ZAULINTE_IN_USE);
@@ -128,9 +129,23 @@ static void lent(void) {
     gives_back(&takers, place);
     pthread_join(id, NULL);
 }
+static void waits(void) {
+    pthread_t ids[2];
+    uint64_t waiters = 0;
+    ZAULINTE_CHECK(zaulinte_make(&store.m, 2, 1, 0));
+    ZAULINTE_CHECK(zaulinte_group_make(&takers, &store.m, 0, 1));
+    for (int k = 0; k < 2; k++) pthread_create(&ids[k], NULL, take, NULL);
+    while (takers.sleepers == 0 || waiters == 0) {
+        ZAULINTE_CHECK(zaulinte_enter(&store.m, 1));
+        ZAULINTE_CHECK(zaulinte_count(&store.m, 1, ITEM, &waiters));
+        ZAULINTE_CHECK(zaulinte_leave(&store.m, 1));
+    }
+    exit(0);
+}
 int main(int argc, char **argv) {
     const char *what = argc > 1 ? argv[1] : "";
     if (!strcmp(what, "lent")) return lent(), 0;
+    if (!strcmp(what, "waits")) waits();
     refused_makes();
     refused_places();
     few_places();

@@ -27,7 +27,7 @@ typedef struct readers_writers {
 
 static inline bool readers_writers_inv(void *context) {
     const readers_writers *l = context;
-    return !(l->writes && l->readers > 0);
+    return !(l->writes && l->readers > 0) && l->readers <= UINT64_MAX / 2; /* else more reads ended than began */
 }
 static inline bool readers_writers_rest(void *context, const zaulinte_waiting *waiting) {
     const readers_writers *l = context;

@@ -2,6 +2,7 @@
  * NOT PROVED, tested.
  *
  *     static work_queue q;                               // all zero, as a monitor
+ *     void *job;
  *     ZAULINTE_CHECK(work_queue_make(&q, 100));          // room for 100 jobs
  *     if (!work_queue_submit(&q, job)) free(job);        // any thread: the queue is closed
  *     while (work_queue_take(&q, &job)) run(job);        // any thread

@@ -3,9 +3,10 @@
 //     struct store { long items = 0; bool is_over = false; };
 //     ZAULINTE_CONDITIONS(may, take);
 //     zaulinte::monitor<store, may> m{8};
-//     parts::limit_clock clock;                                            // one, for any number of monitors
-//     parts::limit taking{clock, m, may::take, 7, &store::is_over};        // place 7 is the clock's
-//     ..
+//     parts::limit_clock timer;                                            // one, for any number of monitors
+//     parts::limit taking{timer, m, may::take, 7, &store::is_over};        // place 7 is the clock's
+// and in a function:
+//     auto in = m.enter(k);
 //     if (in->items == 0 && !taking.wait(in, deadline)) return false;      // the time is over
 //
 // The clock has a thread, which sleeps until the first deadline of all. Then it enters the monitor by its place, and

@@ -1,7 +1,7 @@
 // work_queue.hpp: a bounded queue between threads that submit and that take. A part to copy. NOT PROVED, tested.
 //
 //     parts::work_queue<job> jobs{100};            // at most 100 jobs are in it
-//     if (!jobs.submit(one)) return;               // it is closed
+//     if (!jobs.submit(std::move(one))) return;    // it is closed, and `one` is as it was
 //     while (auto next = jobs.take()) next->run(); // until it is closed, and empty
 //
 // Any number of threads may call it at once. It has 64 places in three groups, so at most 31 threads wait to take and
@@ -43,8 +43,8 @@ template <class T> class work_queue {
     }
 
     // Puts an item at the end, and returns true. Blocks while the queue is full and open. Returns false if it is
-    // closed: the item is dropped. Allocates, and moves the item, before it enters: if that throws, nothing happened.
-    bool submit(T item) {
+    // closed: the item is as it was. Allocates, and moves the item, before it enters: if that throws, nothing happened.
+    [[nodiscard]] bool submit(T &&item) {
         std::list<T> one;
         one.push_back(std::move(item));
         auto in = submitters.enter();
@@ -52,6 +52,7 @@ template <class T> class work_queue {
         bool is_open = !in->is_closed;
         if (is_open) in->items.splice(in->items.end(), one);
         in.signal_leave(is_open ? queue_is::nonempty : queue_is::nonfull); // closed: the next submitter that waits
+        if (!is_open) item = std::move(one.front());
         return is_open;
     }
     // Removes the first item and returns it. Blocks while the queue is empty and open. Returns nothing if it is empty

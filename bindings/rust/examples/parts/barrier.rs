@@ -2,6 +2,8 @@
 //!
 //! It needs no number of the round. The last thread to arrive resumes a waiter, and each resumed thread the next. No
 //! thread enters in between, so none of the next round meets a waiter of this one.
+//!
+//! A file to copy, not proved, tested.
 use zaulinte::{conditions, Checks, Monitor, Places, Refused};
 
 conditions! { pub enum When { AllArrived } }
@@ -13,6 +15,7 @@ pub struct Round {
 
 pub struct Barrier {
     /// Shows what each thread does, by `{:#?}`.
+    #[allow(dead_code)] // to show what each thread does: `{:#?}`
     pub monitor: Monitor<Round, When>,
     parties: Places<Round, When>,
 }

@@ -1,5 +1,7 @@
 //! A latch: threads wait until it was counted down so many times. Then it is open, and stays so. Any number of threads
 //! count down and wait.
+//!
+//! A file to copy, not proved, tested.
 use zaulinte::{conditions, Checks, Monitor, Places, Refused};
 
 conditions! { pub enum When { Open } }
@@ -16,6 +18,7 @@ pub struct Count {
 
 pub struct Latch {
     /// Shows what each thread does, by `{:#?}`.
+    #[allow(dead_code)] // to show what each thread does: `{:#?}`
     pub monitor: Monitor<Count, When>,
     counters: Places<Count, When>,
     waiters: Places<Count, When>,

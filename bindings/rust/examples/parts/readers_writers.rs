@@ -3,6 +3,8 @@
 //!
 //! What they read is outside of the monitor, which guards the counts alone. That pays if a read is long. For a short
 //! read keep the data in the monitor: two visits for each read cost much more than the read.
+//!
+//! A file to copy, not proved, tested.
 use std::sync::PoisonError;
 use zaulinte::{conditions, Checks, Inside, Monitor, Places, Refused};
 
@@ -21,6 +23,7 @@ pub struct Counts {
 
 pub struct ReadersWriters {
     /// Shows what each thread does, by `{:#?}`.
+    #[allow(dead_code)] // to show what each thread does: `{:#?}`
     pub monitor: Monitor<Counts, May>,
     starters: Places<Counts, May>,
     enders: Places<Counts, May>,

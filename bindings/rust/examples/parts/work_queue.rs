@@ -1,5 +1,7 @@
 //! A bounded queue of work: a submitter waits if it is full, a taker if it is empty. Any number of threads submit, take
 //! and close.
+//!
+//! A file to copy, not proved, tested.
 use std::collections::VecDeque;
 use zaulinte::{conditions, Checks, Inside, Monitor, Places, Refused};
 
@@ -19,6 +21,7 @@ type Group<T> = Places<Items<T>, When>;
 
 pub struct WorkQueue<T: Send> {
     /// Shows what each thread does, by `{:#?}`.
+    #[allow(dead_code)] // to show what each thread does: `{:#?}`
     pub monitor: Monitor<Items<T>, When>,
     takers: Group<T>,
     submitters: Group<T>,

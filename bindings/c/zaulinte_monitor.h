@@ -143,9 +143,9 @@ __attribute__((used))
 static const char *const zaulinte_asks_for = &ZAULINTE_BUILD;
 
 /* Makes a monitor of `places` places, 1 to 64, one for each thread that may be in it at once, and of `conditions`
- * conditions, 1 to 8, the last `mesa` of which are Mesa conditions. Returns 0. Refused, in this order: 115 `m` isn't
- * at a multiple of 64, 108 there is a monitor already, 109 bad number of places, 110 bad number of conditions or of
- * Mesa conditions, 111 an allocation failed. */
+ * conditions, 1 to 8, the last `mesa` of which are Mesa conditions. For data alone make 1, on which no thread waits.
+ * Returns 0. Refused, in this order: 115 `m` isn't at a multiple of 64, 108 there is a monitor already, 109 bad number
+ * of places, 110 bad number of conditions or of Mesa conditions, 111 an allocation failed. */
 ZAULINTE_CODE zaulinte_make(zaulinte_monitor *m, uint64_t places, uint64_t conditions, uint64_t mesa);
 /* Frees what `zaulinte_make` made, and returns 0; there is no monitor then. Refused: 107 there is no monitor; 112 a
  * thread has a place, which is inside or waits, or the thread is in a call; or a group of the monitor isn't freed. A

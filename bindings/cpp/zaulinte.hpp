@@ -2,6 +2,7 @@
 //
 //     ZAULINTE_CONDITIONS(room, is_there);         // an enum of conditions
 //     zaulinte::monitor<permits, room> m{8};       // 8 places. <T, C, M>: M is an enum of Mesa conditions
+//     zaulinte::monitor<long> sum{8};              // for data alone: its threads enter and leave, and never wait
 //     zaulinte::place<decltype(m)> mine{m, 3};     // a thread's place
 //     {
 //         auto in = mine.enter();                  // inside for this scope
@@ -25,6 +26,7 @@
 #include <optional>
 #include <stdexcept>
 #include <string>
+#include <type_traits>
 #include <utility>
 
 // Declares `enum class name` with up to eight conditions, and what a monitor reads of it: their number and their names.
@@ -100,12 +102,14 @@ class refused : public std::logic_error {
     std::terminate();
 }
 
-// A monitor with data T, Hoare's conditions C and Mesa conditions M, both enums of ZAULINTE_CONDITIONS: 1 to 8 in all.
-template <class T, class C, class M = no_conditions> class monitor {
+// A monitor with data T, Hoare's conditions C and Mesa conditions M, both enums of ZAULINTE_CONDITIONS: up to 8 in all.
+// `monitor<T>` is for data alone: its door has one of Hoare's conditions, since a door has 1 to 8, but no call can name
+// it, and no thread waits.
+template <class T, class C = no_conditions, class M = no_conditions> class monitor {
     static constexpr condition_names hoare = zaulinte_names(C{}), mesa = zaulinte_names(M{});
     static constexpr unsigned conditions = hoare.count() + mesa.count();
-    static_assert(hoare.count() >= 1 || mesa.count() >= 1, "no condition");
     static_assert(conditions <= 8, "at most 8 conditions");
+    static_assert(conditions == 0 || !std::is_same_v<C, M>, "C and M are two enums");
     zaulinte_monitor m{};
     T data;
     std::string names = std::string(hoare.all) + ", " + mesa.all;
@@ -113,10 +117,10 @@ template <class T, class C, class M = no_conditions> class monitor {
     void (*shown)(const T &) = nullptr;
 
     // Returns the number of a condition, or, if a cast made a value that no condition has, a number that is refused.
-    static std::uint32_t at(C c) noexcept { return number_of(c, 0); }
-    static std::uint32_t at(M c) noexcept { return number_of(c, hoare.count()); }
-    template <class E> static std::uint32_t number_of(E c, unsigned first) noexcept {
+    template <class E, class = std::enable_if_t<std::is_same_v<E, C> || std::is_same_v<E, M>>>
+    static std::uint32_t at(E c) noexcept {
         auto n = static_cast<std::uint32_t>(c);
+        constexpr unsigned first = std::is_same_v<E, C> ? 0 : hoare.count();
         return n < zaulinte_names(c).count() ? first + n : UINT32_MAX;
     }
     static void must(std::uint64_t code, const char *call, unsigned place) {
@@ -138,7 +142,7 @@ template <class T, class C, class M = no_conditions> class monitor {
     // Makes a monitor of 1 to 64 places; `a` are the arguments of T's constructor. Throws `refused`: 109 bad number of
     // places, 111 an allocation failed.
     template <class... A> explicit monitor(unsigned number_of_places, A &&...a) : data(std::forward<A>(a)...) {
-        std::uint64_t code = zaulinte_make(&m, number_of_places, conditions, mesa.count());
+        std::uint64_t code = zaulinte_make(&m, number_of_places, conditions ? conditions : 1, mesa.count());
         if (code) throw refused(code, "a monitor of " + std::to_string(number_of_places) + " places");
         name(nullptr);
     }

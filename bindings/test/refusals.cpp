@@ -28,8 +28,8 @@ ZAULINTE_CONDITIONS(wrong, one, );
 #elif MUST_NOT_BUILD == 3 // says: call to.*zaulinte_names
 enum class wrong { one };
 zaulinte::monitor<int, wrong> none{1};
-#elif MUST_NOT_BUILD == 4 // says: no condition
-zaulinte::monitor<int, zaulinte::no_conditions> none{1};
+#elif MUST_NOT_BUILD == 4 // says: C and M are two enums
+zaulinte::monitor<int, store::may, store::may> none{1};
 #elif MUST_NOT_BUILD == 5 // says: at most 8 conditions
 zaulinte::monitor<int, eight, store::is> none{1};
 #elif MUST_NOT_BUILD == 6 // says: ignoring return value
@@ -44,6 +44,8 @@ void ignores(place &p) { p.try_enter(); }
 void exchanges(monitor &m) { (void)m.enter(store::may::put); }
 #elif MUST_NOT_BUILD == 11 // says: no matching function for call to.*at
 void exchanges(inside &in) { in.wait(3); }
+#elif MUST_NOT_BUILD == 12 // says: no matching function for call to.*at
+void waits(zaulinte::monitor<int>::inside &in) { in.wait(store::may::put); }
 #endif
 
 template <class E, class = void> struct can_signal : std::false_type {};
@@ -158,6 +160,13 @@ static void assigned() {
     }
     is(one.try_enter(0).has_value());
 }
+// Returns the recording of a monitor, by way of the file `path`.
+template <class M> static std::string saved(M &m, const std::string &path) {
+    is(m.save(path.c_str()));
+    std::stringstream text;
+    text << std::ifstream(path).rdbuf();
+    return text.str();
+}
 // A recording, in the file `path`, is the acts since `record`.
 static void recorded(const std::string &path) {
     monitor m(2);
@@ -168,10 +177,7 @@ static void recorded(const std::string &path) {
     }
     m.record(9);
     m.enter(1).notify(store::is::changed);
-    is(m.save(path.c_str()));
-    std::stringstream text;
-    text << std::ifstream(path).rdbuf();
-    is(text.str() == "monitor 2 5 2\nenter 1\nnotify 1 4\nleave 1\n");
+    is(saved(m, path) == "monitor 2 5 2\nenter 1\nnotify 1 4\nleave 1\n");
 }
 // Monitors of eight conditions of one kind, one with data that can't be copied; and the names of conditions.
 static void limits() {
@@ -181,6 +187,21 @@ static void limits() {
     is(*of_hoare.enter(0) == 2 && **in == 3 && in.notify(eight::h) == 0);
     auto names = zaulinte_names(store::may{});
     is(names.name(0) == "put" && names.name(1) == "take" && names.name(2) == "look");
+}
+// A monitor for data alone. A value that a cast made names no condition, also that of its door.
+static void data_alone(const std::string &path) {
+    zaulinte::monitor<int> sum(2, 5);
+    constexpr zaulinte::no_conditions nothing{};
+    sum.record(9);
+    *sum.enter(1) += 3;
+    {
+        auto in = sum.enter(0);
+        is(*in == 8 && !sum.try_enter(1));
+        is_refused("wait by place 0 on condition 0", no_condition, [&] { in.wait(nothing); });
+        is_refused("signal by place 0 on condition 0", no_condition, [&] { in.signal(nothing); });
+        is_refused("notify by place 0 on condition 0", no_condition, [&] { in.notify(nothing); });
+    }
+    is(saved(sum, path) == "monitor 2 1 0\nenter 1\nleave 1\nenter 0\nleave 0\n");
 }
 // Two places wait, the second without a priority, so it is first. Checks that are null hold.
 static void by_priority() {
@@ -236,6 +257,7 @@ int main(int argc, char **argv) {
     limits();
     by_priority();
     recorded(argv[0] + std::string(".script"));
+    data_alone(argv[0] + std::string(".script"));
     tested(fault);
     std::optional<monitor> m(std::in_place, 1u);
     m->name("named");

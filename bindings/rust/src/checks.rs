@@ -5,7 +5,7 @@ use core::fmt;
 use core::marker::PhantomData;
 
 /// Which conditions have waiters, at the moment of a check.
-pub struct Waiting<C, M = NoConditions> {
+pub struct Waiting<C = NoConditions, M = NoConditions> {
     pub(crate) counts: [usize; 8],
     pub(crate) firsts: [Option<u64>; 8],
     pub(crate) of: PhantomData<(C, M)>,
@@ -61,7 +61,7 @@ impl<C: Condition, M: Condition> fmt::Debug for Waiting<C, M> {
 ///
 /// Only `rest` finds a forgotten signal, or one on the wrong condition. The functions capture nothing: what they
 /// compare with, a limit say, is kept in the data.
-pub struct Checks<T, C, M = NoConditions> {
+pub struct Checks<T, C = NoConditions, M = NoConditions> {
     /// Holds always.
     pub inv: fn(data: &T) -> bool,
     /// Holds at a leave and at a wait.

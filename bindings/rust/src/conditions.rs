@@ -13,7 +13,7 @@ pub trait Condition: Copy + Debug {
     fn index(self) -> usize;
 }
 
-/// The conditions of a monitor without Mesa conditions, or without Hoare's.
+/// The conditions of a monitor without Mesa conditions, or without Hoare's, or without both: one for data alone.
 #[derive(Clone, Copy, Debug)]
 pub enum NoConditions {}
 
@@ -21,6 +21,15 @@ impl Condition for NoConditions {
     const COUNT: usize = 0;
     fn index(self) -> usize {
         match self {}
+    }
+}
+
+/// Returns the number of conditions of a monitor's door: at least 1, as a door needs. If the monitor has none, no call
+/// can name that one.
+pub(crate) const fn count_of_door<C: Condition, M: Condition>() -> usize {
+    match C::COUNT.saturating_add(M::COUNT) {
+        0 => 1,
+        count => count,
     }
 }
 

@@ -22,7 +22,7 @@ use core::sync::atomic::Ordering::Relaxed;
 /// An act panics if a condition's index isn't below its enum's `COUNT`, and in a debug build if a check of
 /// [`Checks`](crate::Checks) fails.
 #[must_use = "the place leaves at once if the guard is unused"]
-pub struct Inside<'a, T, C: Condition, M: Condition = NoConditions, P: Port = DefaultPort> {
+pub struct Inside<'a, T, C: Condition = NoConditions, M: Condition = NoConditions, P: Port = DefaultPort> {
     pub(crate) place: &'a mut Place<T, C, M, P>,
     panicked: bool, // before it entered
     stays: PhantomData<*const ()>,

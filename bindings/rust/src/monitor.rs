@@ -1,5 +1,5 @@
 //! A monitor and its places.
-use crate::conditions::{Condition, NoConditions};
+use crate::conditions::{count_of_door, Condition, NoConditions};
 use crate::door::{Door, Next, Seat};
 use crate::notes::{Does, Notes, Shown};
 use crate::parking::{back_off, Departure, Parking, Patience};
@@ -71,13 +71,16 @@ impl<T, C, M, P> Inner<T, C, M, P> {
     }
 }
 
-/// A monitor of data `T`, with Hoare's conditions `C` and Mesa conditions `M`, 1 to 8 in all. Threads use it by its
+/// A monitor of data `T`, with Hoare's conditions `C` and Mesa conditions `M`, at most 8 in all. Threads use it by its
 /// [`Place`]s. They sleep and wake by the port `P`.
+///
+/// `Monitor<T>` is for data alone: a place enters and leaves, and can't wait. Its door and its recordings have one
+/// condition, since a door has 1 to 8.
 ///
 /// If the monitor is dropped while places are left, they keep what they share, and continue to work.
 ///
 /// A monitor of data that mustn't move to another thread, an `Rc` say, doesn't compile.
-pub struct Monitor<T, C, M = NoConditions, P = DefaultPort>(Arc<Inner<T, C, M, P>>);
+pub struct Monitor<T, C = NoConditions, M = NoConditions, P = DefaultPort>(Arc<Inner<T, C, M, P>>);
 
 /// A place of a monitor: the thread that owns the place may enter. A place moves between threads, and can't be copied.
 /// Each act borrows it as `&mut`, so two threads can't act by one place.
@@ -86,7 +89,7 @@ pub struct Monitor<T, C, M = NoConditions, P = DefaultPort>(Arc<Inner<T, C, M, P
 ///
 /// A place that is dropped goes back to its monitor. If it is still inside then, since a guard was forgotten
 /// (`mem::forget`), it leaves first. Until then no other place enters.
-pub struct Place<T, C, M = NoConditions, P: Port = DefaultPort> {
+pub struct Place<T, C = NoConditions, M = NoConditions, P: Port = DefaultPort> {
     pub(crate) seat: Seat, // before `inner`, whose door closes only after the place was given back
     pub(crate) inner: Arc<Inner<T, C, M, P>>,
     pub(crate) is_inside: bool,
@@ -125,7 +128,7 @@ impl<T: Send, C: Condition, M: Condition, P: Port> Monitor<T, C, M, P> {
         checks: Checks<T, C, M>,
         ports: impl FnMut() -> P,
     ) -> Result<(Self, Vec<Place<T, C, M, P>>), Refused> {
-        let mut door = Door::new(places, C::COUNT.saturating_add(M::COUNT), M::COUNT)?;
+        let mut door = Door::new(places, count_of_door::<C, M>(), M::COUNT)?;
         let parking = Parking::new(places, ports)?;
         let (notes, recorder) = (Notes::new(places)?, Recorder::default());
         let mut all = room_for(places)?;
@@ -180,7 +183,7 @@ impl<T: Send, C: Condition, M: Condition, P: Port> Monitor<T, C, M, P> {
     /// monitor doesn't record, or if acts are recorded all the time while it reads. Any thread may call it at any time.
     pub fn recording(&self) -> Option<String> {
         let lines = self.0.recorder.get()?.lines(self.0.notes.inside())?;
-        let (places, conditions) = (self.0.parking.places(), C::COUNT + M::COUNT);
+        let (places, conditions) = (self.0.parking.places(), count_of_door::<C, M>());
         Some(format!("monitor {places} {conditions} {}\n{lines}", M::COUNT))
     }
 

@@ -59,7 +59,7 @@ impl Free {
 ///
 /// Not specified: which of several threads that want a place gets it first. `{group:?}` shows how many places are free,
 /// and how many threads sleep until one is.
-pub struct Places<T, C, M = NoConditions, P: Port = DefaultPort> {
+pub struct Places<T, C = NoConditions, M = NoConditions, P: Port = DefaultPort> {
     places: Vec<UnsafeCell<Place<T, C, M, P>>>,
     free: Free,
     entrance: Entrance<P>,
@@ -73,7 +73,7 @@ unsafe impl<T, C, M, P: Port> Sync for Places<T, C, M, P> where Place<T, C, M, P
 /// (`mem::forget`), it leaves first. If a `Borrowed` is forgotten itself, no other thread gets its place, until
 /// [`Places::into_inner`].
 #[must_use = "the place is given back at once if it is unused"]
-pub struct Borrowed<'a, T, C, M = NoConditions, P: Port = DefaultPort> {
+pub struct Borrowed<'a, T, C = NoConditions, M = NoConditions, P: Port = DefaultPort> {
     group: &'a Places<T, C, M, P>,
     index: usize,
     is: PhantomData<&'a mut Place<T, C, M, P>>,

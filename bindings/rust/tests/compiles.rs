@@ -79,6 +79,8 @@ E0277 a_guard_goes_to_a_scoped_thread: let mut i = p[0].enter().unwrap(); thread
 E0277 a_cell_s_guard_is_shared: let (m, mut p) = Of::new(Cell::new(0), 1).unwrap(); let i = p[0].enter().unwrap(); \
     thread::scope(|s| { s.spawn(|| i.set(1)); });
 E0308 a_wait_on_another_enum: conditions! { enum A { B } } let mut i = p[0].enter().unwrap(); let _ = i.wait(A::B, 0);
+E0308 a_wait_in_a_monitor_for_data_alone: let (_, mut p) = Monitor::<u32>::new(0, 1).unwrap(); \
+    let mut i = p[0].enter().unwrap(); let _ = i.wait(When::Ever, 0);
 E0308 a_signal_on_a_mesa_condition: let mut i = p[0].enter().unwrap(); let _ = i.signal(Mesa::Other);
 E0308 a_notify_on_a_hoare_condition: let mut i = p[0].enter().unwrap(); i.notify(When::Ever);
 E0308 a_check_captures: let k = 3; let c = Checks::<u32, When> { inv: |d| *d < k, ..Checks::default() };

@@ -2,7 +2,7 @@
 use std::panic::{catch_unwind, AssertUnwindSafe};
 use std::sync::PoisonError;
 use std::thread;
-use zaulinte::{conditions, Inside, Monitor, NoConditions, Place, Refused};
+use zaulinte::{conditions, Inside, Monitor, Place, Refused};
 
 conditions! { enum When { Ever, Never } }
 conditions! { enum Mesa { Other } }
@@ -25,7 +25,6 @@ fn sizes_are_refused() {
     assert_eq!(Monitor::<(), When>::new((), 0).err(), Some(Refused::BadPlaces));
     assert_eq!(Monitor::<(), When>::new((), 65).err(), Some(Refused::BadPlaces));
     assert_eq!(Monitor::<(), Five, Five>::new((), 1).err(), Some(Refused::BadConditions));
-    assert_eq!(Monitor::<(), NoConditions>::new((), 1).err(), Some(Refused::BadConditions));
     assert!(Monitor::<(), When, Five>::new((), 64).is_ok());
 }
 

@@ -119,6 +119,16 @@ fn a_place_that_only_entered_is_recorded() {
 }
 
 #[test]
+fn a_monitor_for_data_alone_is_seen_and_its_script_has_a_condition() {
+    let (monitor, mut places) = Monitor::<u32>::new(0, 2).unwrap();
+    monitor.record(&mut places, 9).unwrap();
+    *places[1].enter().unwrap() += 1;
+    let inside = places[0].enter().unwrap();
+    assert_eq!((*inside, monitor.recording().unwrap()), (1, "monitor 2 1 0\nenter 1\nleave 1\nenter 0\n".into()));
+    assert!(format!("{monitor:?}").contains("place 0: inside"));
+}
+
+#[test]
 #[should_panic(expected = "the monitor records already")]
 fn a_monitor_records_once() {
     let (monitor, mut places) = Monitor::<_, Of>::new((), 1).unwrap();

@@ -10,7 +10,7 @@ static struct {
     connection *ready[ROOM];
     unsigned first, count;
     bool closed;
-} queue = {.lock = PTHREAD_MUTEX_INITIALIZER, .nonfull = PTHREAD_COND_INITIALIZER, .nonempty = PTHREAD_COND_INITIALIZER};
+} queue = {PTHREAD_MUTEX_INITIALIZER, .nonfull = PTHREAD_COND_INITIALIZER, .nonempty = PTHREAD_COND_INITIALIZER};
 
 static void queue_append(connection **ready, unsigned n) {
     pthread_mutex_lock(&queue.lock);
@@ -53,11 +53,11 @@ static struct {
     uint32_t waits, most_waits;
     bool closed;
 } store = {.lock = PTHREAD_MUTEX_INITIALIZER};
-enum { VISIT, WAIT }; /* instead of the number of a place */
+enum { NO_WAIT, WAIT }; /* instead of the number of a place */
 
 static uint32_t store_enter(void) {
     pthread_mutex_lock(&store.lock);
-    return VISIT;
+    return NO_WAIT;
 }
 static bool store_enter_to_wait(uint32_t *place) {
     pthread_mutex_lock(&store.lock);
@@ -67,26 +67,26 @@ static bool store_enter_to_wait(uint32_t *place) {
     *place = WAIT;
     return may_wait;
 }
-static bool store_await(uint32_t place, entry *list, uint64_t milliseconds) {
+static bool store_await(uint32_t place, list *l, uint64_t milliseconds) {
     struct timespec until = {0, 0};
-    struct waiting *w = list->waiting;
+    struct waiting *w = l->waiting;
     (void)place;
     for (unsigned i = 0; !w; i++)
         if (!store.waiting[i].clients) w = &store.waiting[i]; /* there is one: at most MOST_WAITS clients wait */
-    list->waiting = w, w->clients++;
+    l->waiting = w, w->clients++;
     clock_gettime(CLOCK_MONOTONIC, &until);
     uint64_t nanoseconds = (uint64_t)until.tv_nsec + milliseconds % 1000 * 1000000;
     until.tv_sec += (time_t)(milliseconds / 1000 + nanoseconds / 1000000000);
     until.tv_nsec = (long)(nanoseconds % 1000000000);
-    for (int over = 0; !list->count && !store.closed && !over;)
-        over = milliseconds == NO_LIMIT ? pthread_cond_wait(&w->some, &store.lock)
+    for (int over = 0; !l->count && !store.closed && !over;)
+        over = milliseconds == UINT64_MAX ? pthread_cond_wait(&w->some, &store.lock)
                                         : pthread_cond_timedwait(&w->some, &store.lock, &until);
-    if (!--w->clients) list->waiting = NULL;
+    if (!--w->clients) l->waiting = NULL;
     return true;
 }
-static void store_leave(uint32_t place, entry *e) {
-    if (e->count && e->waiting) pthread_cond_signal(&e->waiting->some);
-    entry_drop(e);
+static void store_leave(uint32_t place, list *l) {
+    if (l->count && l->waiting) pthread_cond_signal(&l->waiting->some);
+    list_drop(l);
     if (place == WAIT) store.waits--;
     pthread_mutex_unlock(&store.lock);
 }

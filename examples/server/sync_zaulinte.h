@@ -19,15 +19,11 @@ static struct {
     unsigned first, count;
     bool closed;
 } queue;
-
-static bool queue_inv(void *unused) {
-    (void)unused;
-    return queue.count <= ROOM && queue.first < ROOM;
-}
+static bool queue_inv(void *unused) { return (void)unused, queue.count <= ROOM && queue.first < ROOM; }
 static bool queue_rest(void *unused, const zaulinte_waiting *waiting) {
     (void)unused;
-    return !(waiting->count[NONFULL] && queue.count < ROOM) &&
-           !(waiting->count[NONEMPTY] && (queue.count || queue.closed));
+    return (queue.count == ROOM || !waiting->count[NONFULL]) &&
+           ((!queue.count && !queue.closed) || !waiting->count[NONEMPTY]);
 }
 static bool queue_ready(void *unused, uint32_t condition, uint64_t priority, const zaulinte_waiting *waiting) {
     (void)unused, (void)priority, (void)waiting;
@@ -69,7 +65,7 @@ static void queue_close(void) {
 enum { CONDITIONS = 8, VISITS = 62 - MOST_WAITS, CLOSER = 62, CLOCK };
 struct waiting {
     limit limit;
-    entry *on; /* the list; NULL: no client waits on this condition */
+    list *on; /* NULL: no client waits on this condition */
 };
 static struct {
     zaulinte_monitor m;
@@ -78,12 +74,11 @@ static struct {
     struct waiting waiting[CONDITIONS];
     bool closed;
 } store;
-
 static bool store_rest(void *unused, const zaulinte_waiting *waiting) {
     (void)unused;
     bool holds = true;
     for (uint32_t c = 0; c < CONDITIONS; c++) {
-        const entry *on = store.waiting[c].on;
+        const list *on = store.waiting[c].on;
         holds = holds && !on == !waiting->count[c] && !(on && on->count);
     }
     return holds;
@@ -99,22 +94,22 @@ static bool store_enter_to_wait(uint32_t *place) {
     ZAULINTE_CHECK(zaulinte_enter(&store.m, *place));
     return true;
 }
-static bool store_await(uint32_t place, entry *list, uint64_t milliseconds) {
-    struct waiting *w = list->waiting;
+static bool store_await(uint32_t place, list *l, uint64_t milliseconds) {
+    struct waiting *w = l->waiting;
     if (store.closed) return true;
     for (uint32_t c = 0; !w && c < CONDITIONS; c++)
         if (!store.waiting[c].on) w = &store.waiting[c];
     if (!w) return false;
-    w->on = list, list->waiting = w;
+    w->on = l, l->waiting = w;
     limit_wait(&w->limit, place, limit_deadline(milliseconds));
     bool others_wait;
     ZAULINTE_CHECK(zaulinte_queue(&store.m, place, w->limit.condition, &others_wait));
-    if (!others_wait) w->on = NULL, list->waiting = NULL;
+    if (!others_wait) w->on = NULL, l->waiting = NULL;
     return true;
 }
-static void store_leave(uint32_t place, entry *e) {
-    struct waiting *next = store.closed || e->count ? e->waiting : NULL;
-    entry_drop(e);
+static void store_leave(uint32_t place, list *l) {
+    struct waiting *next = store.closed || l->count ? l->waiting : NULL;
+    list_drop(l);
     if (next) ZAULINTE_CHECK(zaulinte_signal_leave(&store.m, place, next->limit.condition, NULL));
     else ZAULINTE_CHECK(zaulinte_leave(&store.m, place));
     ZAULINTE_CHECK(zaulinte_give_back(place < MOST_WAITS ? &store.waits : &store.visits, place));
@@ -136,8 +131,7 @@ static void sync_make(uint32_t waits) {
     ZAULINTE_CHECK(zaulinte_group_make(&store.visits, &store.m, MOST_WAITS, VISITS));
     zaulinte_check(&store.m, NULL, store_rest, store_ready, NULL);
     zaulinte_name(&store.m, "store", NULL);
-    for (uint32_t c = 0; c < CONDITIONS; c++)
-        limit_clock_add(&store.clock, &store.waiting[c].limit, &store.m, c, CLOCK);
+    for (uint32_t c = 0; c < CONDITIONS; c++) limit_clock_add(&store.clock, &store.waiting[c].limit, &store.m, c, CLOCK);
     limit_test(limit_clock_start(&store.clock));
 }
 static void sync_free(void) {

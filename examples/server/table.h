@@ -1,4 +1,5 @@
 /* table.h: the keys, each with a list. The caller is inside the store. */
+#include <search.h>
 #include <stdbool.h>
 #include <stdint.h>
 #include <stdio.h>
@@ -6,8 +7,7 @@
 #include <string.h>
 #include <sys/queue.h>
 
-/* Bytes that belong to somebody else. */
-typedef struct word {
+typedef struct word { /* bytes */
     const char *at;
     size_t length;
 } word;
@@ -16,70 +16,59 @@ typedef struct item {
     size_t length;
     char bytes[]; /* and a 0 */
 } item;
-TAILQ_HEAD(items, item);
-/* A key with its list: a string is a list of one item. An entry without items is in the table only while clients wait
- * for one: `waiting`, which belongs to sync_*.h, isn't NULL then. */
-typedef struct entry {
-    LIST_ENTRY(entry) beside; /* in its bucket */
-    struct items items;
-    uint64_t count;
+/* A key with its items. It is in the table while it has an item, or clients wait for one: then `waiting`, which belongs
+ * to sync_*.h, isn't NULL. */
+typedef struct list {
+    word key;
+    TAILQ_HEAD(items, item) items;
+    size_t count;
     struct waiting *waiting;
-    size_t length;
-    char key[];
-} entry;
+    char bytes[]; /* of the key */
+} list;
+static void *table; /* of tsearch */
 
-enum { BUCKETS = 1 << 16 };
-static LIST_HEAD(bucket, entry) table[BUCKETS];
-
-/* Returns new memory, all zero. */
-static inline void *memory(size_t size) {
+static inline void *memory(size_t size) { /* all zero */
     void *at = calloc(1, size);
     if (!at) perror("kv"), abort();
     return at;
 }
-static inline struct bucket *bucket_of(word key) {
-    uint64_t hash = 14695981039346656037u; /* FNV-1a */
-    for (size_t i = 0; i < key.length; i++) hash = (hash ^ (unsigned char)key.at[i]) * 1099511628211u;
-    return &table[(hash >> 20) % BUCKETS];
+static inline int list_order(const void *one, const void *other) {
+    const list *a = one, *b = other;
+    if (a->key.length != b->key.length) return a->key.length < b->key.length ? -1 : 1;
+    return memcmp(a->key.at, b->key.at, a->key.length);
 }
-/* Returns the entry of a key, and makes it if there is none. */
-static inline entry *entry_of(word key) {
-    entry *e;
-    struct bucket *bucket = bucket_of(key);
-    LIST_FOREACH(e, bucket, beside)
-        if (e->length == key.length && !memcmp(e->key, key.at, key.length)) return e;
-    e = memory(sizeof *e + key.length);
-    e->length = key.length;
-    memcpy(e->key, key.at, key.length);
-    TAILQ_INIT(&e->items);
-    LIST_INSERT_HEAD(bucket, e, beside);
-    return e;
+/* Returns the list of a key, and makes it if there is none. */
+static inline list *list_of(word key) {
+    list **found = tfind(&(list){.key = key}, &table, list_order), *l;
+    if (found) return *found;
+    l = memory(sizeof *l + key.length);
+    l->key = (word){memcpy(l->bytes, key.at, key.length), key.length};
+    TAILQ_INIT(&l->items);
+    if (!tsearch(l, &table, list_order)) abort();
+    return l;
 }
-/* Frees an entry if it isn't needed: it has no item, and no client waits for one. */
-static inline void entry_drop(entry *e) {
-    if (e->count || e->waiting) return;
-    LIST_REMOVE(e, beside);
-    free(e);
+/* Frees a list if it isn't needed: it has no item, and no client waits for one. */
+static inline void list_drop(list *l) {
+    if (l->count || l->waiting) return;
+    tdelete(l, &table, list_order);
+    free(l);
 }
-static inline void entry_push(entry *e, word bytes, bool left) {
-    item *x = memory(sizeof *x + bytes.length + 1);
-    x->length = bytes.length;
-    memcpy(x->bytes, bytes.at, bytes.length);
-    if (left) TAILQ_INSERT_HEAD(&e->items, x, beside);
-    else TAILQ_INSERT_TAIL(&e->items, x, beside);
-    e->count++;
+static inline void list_push(list *l, word w, bool left) {
+    item *x = memory(sizeof *x + w.length + 1);
+    x->length = w.length;
+    memcpy(x->bytes, w.at, w.length);
+    if (left) TAILQ_INSERT_HEAD(&l->items, x, beside);
+    else TAILQ_INSERT_TAIL(&l->items, x, beside);
+    l->count++;
 }
-/* Takes an item out, and returns it, or NULL if there is none. */
-static inline item *entry_pop(entry *e, bool left) {
-    item *x = left ? TAILQ_FIRST(&e->items) : TAILQ_LAST(&e->items, items);
+static inline item *list_pop(list *l, bool left) { /* or NULL */
+    item *x = left ? TAILQ_FIRST(&l->items) : TAILQ_LAST(&l->items, items);
     if (!x) return NULL;
-    TAILQ_REMOVE(&e->items, x, beside);
-    e->count--;
+    TAILQ_REMOVE(&l->items, x, beside);
+    l->count--;
     return x;
 }
-static inline void entry_clear(entry *e) {
-    for (item *x; (x = entry_pop(e, true));) free(x);
+static inline void list_clear(list *l) {
+    for (item *x; (x = list_pop(l, true));) free(x);
 }
-static inline void bucket_clear(struct bucket *b) {
-    for (entry *e; (e = LIST_FIRST(b)); entry_drop(e)) entry_clear(e);
-}
+static inline void list_free(void *l) { list_clear(l), free(l); }

@@ -5,14 +5,14 @@
  *   ./kv 6379 8 &    # the port, and the number of workers, 2 to 256
  *
  * The main thread polls, and appends the connections that have input to a bounded queue. A worker takes one, answers
- * what is there, and gives it back to the poll. All that they share is in the two monitors of sync_zaulinte.h. The same
+ * what is there, and gives it back to the poll. Queue and table are in the two monitors of sync_zaulinte.h. The same
  * on mutexes and condition variables is in sync_pthread.h: add -DSYNC='"sync_pthread.h"'.
  *
  * A string is a list of one item, so no value has a wrong type. BLPOP blocks a worker, so fewer clients wait than there
- * are workers: at most 31, and by Zaulinte for 8 lists; others are refused. No call ends the wait of a given place. So
- * if a client is killed while it waits, its worker waits on, until the limit of that BLPOP or until it gets an item. It
- * then finds that the client is gone, and pushes the item back. An item that was sent before the client was killed is
- * lost, as with Redis. SIGTERM and SIGINT end all waits; then the server joins its threads, and frees everything. */
+ * are workers: at most 31, by Zaulinte for 8 lists. Others are refused. No call ends the wait of a given place. So if a
+ * client is killed while it waits, its worker waits on, until the limit of that BLPOP or an item. Then it finds that
+ * the client is gone, and pushes the item back. As with Redis, an item is lost if it was sent before that. SIGTERM and
+ * SIGINT end all waits; then the server joins its threads, and frees everything. */
 #define _GNU_SOURCE
 #include "table.h"
 #include <errno.h>
@@ -60,20 +60,14 @@ static struct {
 
 /* Commands on the list of a key, inside the store. */
 static void reply_bulk(connection *c, const char *bytes, size_t length) {
-    fprintf(c->out, "$%zu\r\n", length);
-    fwrite(bytes, 1, length, c->out);
-    fputs("\r\n", c->out);
+    fprintf(c->out, "$%zu\r\n", length), fwrite(bytes, 1, length, c->out), fputs("\r\n", c->out);
 }
 static void reply_item(connection *c, const item *x) {
     if (x) reply_bulk(c, x->bytes, x->length);
     else fputs("$-1\r\n", c->out);
 }
 static void get(connection *c, list *l) { reply_item(c, TAILQ_FIRST(&l->items)); }
-static void set(connection *c, list *l) {
-    list_clear(l);
-    list_push(l, c->w[2], true);
-    fputs("+OK\r\n", c->out);
-}
+static void set(connection *c, list *l) { list_clear(l), list_push(l, c->w[2], true), fputs("+OK\r\n", c->out); }
 static void incr(connection *c, list *l) {
     char text[24] = "0", *end;
     const char *old = l->count ? TAILQ_FIRST(&l->items)->bytes : text;
@@ -82,15 +76,11 @@ static void incr(connection *c, list *l) {
     if (errno || n == INT64_MAX || end == old || *end) {
         fputs("-ERR value is not an integer or out of range\r\n", c->out);
     } else {
-        list_clear(l);
-        list_push(l, (word){text, (size_t)snprintf(text, sizeof text, "%lld", n + 1)}, true);
+        list_clear(l), list_push(l, (word){text, (size_t)snprintf(text, sizeof text, "%lld", n + 1)}, true);
         fprintf(c->out, ":%s\r\n", text);
     }
 }
-static void del(connection *c, list *l) {
-    fprintf(c->out, ":%d\r\n", l->count > 0);
-    list_clear(l);
-}
+static void del(connection *c, list *l) { fprintf(c->out, ":%d\r\n", l->count > 0), list_clear(l); }
 static void llen(connection *c, list *l) { fprintf(c->out, ":%zu\r\n", l->count); }
 static bool is_left(const connection *c) { return *c->w->at != 'R' && *c->w->at != 'r'; }
 static void push(connection *c, list *l) { /* LPUSH or RPUSH */
@@ -287,7 +277,8 @@ static void free_all(void) {
 }
 int main(int count, char **argument) {
     server.workers = count > 2 ? (unsigned)atoi(argument[2]) : 8;
-    if (count < 2 || server.workers < 2 || server.workers > MOST_WORKERS) return fputs("kv PORT [WORKERS]\n", stderr), 2;
+    if (count < 2 || server.workers < 2 || server.workers > MOST_WORKERS)
+        return fputs("kv PORT [WORKERS]\n", stderr), 2;
     begin((uint16_t)atoi(argument[1]));
     while (!stops) poll_once();
     end();

@@ -25,10 +25,7 @@ static connection *queue_take(void) {
     connection *taken = NULL;
     pthread_mutex_lock(&queue.lock);
     while (!queue.count && !queue.closed) pthread_cond_wait(&queue.nonempty, &queue.lock);
-    if (queue.count) {
-        taken = queue.ready[queue.first];
-        queue.first = (queue.first + 1) % ROOM, queue.count--;
-    }
+    if (queue.count) taken = queue.ready[queue.first++ % ROOM], queue.count--;
     bool is_next = queue.count > 0;
     pthread_mutex_unlock(&queue.lock);
     if (is_next) pthread_cond_signal(&queue.nonempty);

@@ -19,7 +19,7 @@ static struct {
     unsigned first, count;
     bool closed;
 } queue;
-static bool queue_inv(void *unused) { return (void)unused, queue.count <= ROOM && queue.first < ROOM; }
+static bool queue_inv(void *unused) { return (void)unused, queue.count <= ROOM; }
 static bool queue_rest(void *unused, const zaulinte_waiting *waiting) {
     (void)unused;
     return (queue.count == ROOM || !waiting->count[NONFULL]) &&
@@ -42,10 +42,7 @@ static connection *queue_take(void) {
     connection *taken = NULL;
     uint32_t place = enter_by(&queue.takers, &queue.m);
     if (!queue.count && !queue.closed) ZAULINTE_CHECK(zaulinte_wait(&queue.m, place, NONEMPTY, 0));
-    if (queue.count) {
-        taken = queue.ready[queue.first];
-        queue.first = (queue.first + 1) % ROOM, queue.count--;
-    }
+    if (queue.count) taken = queue.ready[queue.first++ % ROOM], queue.count--;
     bool others_wait;
     ZAULINTE_CHECK(zaulinte_queue(&queue.m, place, NONEMPTY, &others_wait));
     bool is_next = others_wait && (queue.count || queue.closed);
@@ -75,13 +72,10 @@ static struct {
     bool closed;
 } store;
 static bool store_rest(void *unused, const zaulinte_waiting *waiting) {
-    (void)unused;
-    bool holds = true;
-    for (uint32_t c = 0; c < CONDITIONS; c++) {
-        const list *on = store.waiting[c].on;
-        holds = holds && !on == !waiting->count[c] && !(on && on->count);
-    }
-    return holds;
+    const struct waiting *w = store.waiting;
+    uint32_t c = 0;
+    while (c < CONDITIONS && !w[c].on == !waiting->count[c] && !(w[c].on && w[c].on->count)) c++;
+    return (void)unused, c == CONDITIONS;
 }
 static bool store_ready(void *unused, uint32_t condition, uint64_t priority, const zaulinte_waiting *waiting) {
     (void)unused, (void)priority, (void)waiting;
@@ -131,7 +125,8 @@ static void sync_make(uint32_t waits) {
     ZAULINTE_CHECK(zaulinte_group_make(&store.visits, &store.m, MOST_WAITS, VISITS));
     zaulinte_check(&store.m, NULL, store_rest, store_ready, NULL);
     zaulinte_name(&store.m, "store", NULL);
-    for (uint32_t c = 0; c < CONDITIONS; c++) limit_clock_add(&store.clock, &store.waiting[c].limit, &store.m, c, CLOCK);
+    for (uint32_t c = 0; c < CONDITIONS; c++)
+        limit_clock_add(&store.clock, &store.waiting[c].limit, &store.m, c, CLOCK);
     limit_test(limit_clock_start(&store.clock));
 }
 static void sync_free(void) {

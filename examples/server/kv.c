@@ -24,6 +24,7 @@
 #include <stdio_ext.h>
 #include <sys/epoll.h>
 #include <sys/resource.h>
+#include <sys/signalfd.h>
 #include <sys/socket.h>
 #include <unistd.h>
 #ifndef SYNC
@@ -50,10 +51,10 @@ typedef struct connection {
 #include SYNC
 
 static struct {
-    int epoll, listener;
+    int epoll, listener, stop;
+    bool stops;
     unsigned workers;
     pthread_t thread[MOST_WORKERS];
-    sigset_t mask;                          /* while the main thread polls */
     _Atomic(connection *) open[MOST_FILES]; /* by their descriptors */
     _Atomic unsigned waiting;               /* clients */
 } server;
@@ -239,27 +240,27 @@ static void poll_once(void) {
     struct epoll_event event[BATCH];
     connection *ready[BATCH];
     unsigned count = 0;
-    int n = epoll_pwait(server.epoll, event, BATCH, -1, &server.mask);
+    int n = epoll_wait(server.epoll, event, BATCH, -1);
     for (int i = 0; i < n; i++) {
-        if (event[i].data.fd == server.listener) accept_connection();
+        if (event[i].data.fd == server.stop) server.stops = true;
+        else if (event[i].data.fd == server.listener) accept_connection();
         else ready[count++] = server.open[event[i].data.fd];
     }
     if (count) queue_append(ready, count);
 }
-static volatile sig_atomic_t stops;
-static void stop(int signal) { stops = signal; }
 static void begin(uint16_t port) {
     struct sockaddr_in at = {.sin_family = AF_INET, .sin_port = htons(port), .sin_addr.s_addr = htonl(INADDR_LOOPBACK)};
-    sigset_t caught; /* only while the main thread polls */
-    sigemptyset(&caught), sigaddset(&caught, SIGTERM), sigaddset(&caught, SIGINT);
-    pthread_sigmask(SIG_BLOCK, &caught, &server.mask);
-    signal(SIGTERM, stop), signal(SIGINT, stop), signal(SIGPIPE, SIG_IGN);
+    sigset_t stops;
+    sigemptyset(&stops), sigaddset(&stops, SIGTERM), sigaddset(&stops, SIGINT);
+    pthread_sigmask(SIG_BLOCK, &stops, NULL);
+    signal(SIGPIPE, SIG_IGN);
     setrlimit(RLIMIT_NOFILE, &(struct rlimit){MOST_FILES, MOST_FILES}); /* refused if there are fewer */
     must((server.epoll = epoll_create1(EPOLL_CLOEXEC)) >= 0, "epoll_create1");
+    must((server.stop = signalfd(-1, &stops, SFD_CLOEXEC)) >= 0, "signalfd");
     must((server.listener = socket(AF_INET, SOCK_STREAM | SOCK_CLOEXEC | SOCK_NONBLOCK, 0)) >= 0, "socket");
     setsockopt(server.listener, SOL_SOCKET, SO_REUSEADDR, &(int){1}, sizeof(int));
     must(!bind(server.listener, (struct sockaddr *)&at, sizeof at) && !listen(server.listener, 1024), "bind");
-    poll_for(server.listener, EPOLL_CTL_ADD, EPOLLIN);
+    poll_for(server.listener, EPOLL_CTL_ADD, EPOLLIN), poll_for(server.stop, EPOLL_CTL_ADD, EPOLLIN);
     sync_make(server.workers <= MOST_WAITS ? server.workers - 1 : MOST_WAITS);
     for (unsigned k = 0; k < server.workers; k++)
         must(!pthread_create(&server.thread[k], NULL, work, NULL), "pthread_create");
@@ -273,15 +274,14 @@ static void end(void) {
 static void free_all(void) {
     for (int fd = 0; fd < MOST_FILES; fd++) close_connection(server.open[fd]);
     tdestroy(table, list_free);
-    close(server.listener), close(server.epoll);
+    close(server.listener), close(server.stop), close(server.epoll);
 }
 int main(int count, char **argument) {
     server.workers = count > 2 ? (unsigned)atoi(argument[2]) : 8;
     if (count < 2 || server.workers < 2 || server.workers > MOST_WORKERS)
         return fputs("kv PORT [WORKERS]\n", stderr), 2;
     begin((uint16_t)atoi(argument[1]));
-    while (!stops) poll_once();
+    while (!server.stops) poll_once();
     end();
     free_all();
-    return 0;
 }

@@ -10,9 +10,9 @@
  *
  * A string is a list of one item, so no value has a wrong type. BLPOP blocks a worker, so fewer clients wait than there
  * are workers: at most 31, by Zaulinte for 8 lists. Others are refused. No call ends the wait of a given place. So if a
- * client is killed while it waits, its worker waits on, until the limit of that BLPOP or an item. Then it finds that
- * the client is gone, and pushes the item back. As with Redis, an item is lost if it was sent before that. SIGTERM and
- * SIGINT end all waits; then the server joins its threads, and frees everything. */
+ * client is killed while it waits, its worker stays blocked, until the limit of that BLPOP or an item. Then it finds
+ * that the client is gone, and pushes the item back. As with Redis, an item is lost if it was sent before that. SIGTERM
+ * and SIGINT end all waits; then the server joins its threads, and frees everything. */
 #define _GNU_SOURCE
 #include "table.h"
 #include <errno.h>

@@ -30,6 +30,9 @@
 #ifndef SYNC
 #define SYNC "sync_zaulinte.h"
 #endif
+#ifndef APPEND
+#define APPEND BATCH /* the most connections that a visit appends */
+#endif
 #define TOO_MANY_WAIT "-ERR too many clients wait\r\n"
 enum { ROOM = 256, BATCH = 64, MOST_WAITS = 31, MOST_WORKERS = 256, MOST_FILES = 1 << 16, WORDS = 64, IN = 1 << 14 };
 typedef struct connection {
@@ -246,7 +249,8 @@ static void poll_once(void) {
         else if (event[i].data.fd == server.listener) accept_connection();
         else ready[count++] = server.open[event[i].data.fd];
     }
-    if (count) queue_append(ready, count);
+    for (unsigned i = 0; i < count; i += APPEND)
+        queue_append(ready + i, count - i < APPEND ? count - i : APPEND);
 }
 static void begin(uint16_t port) {
     struct sockaddr_in at = {.sin_family = AF_INET, .sin_port = htons(port), .sin_addr.s_addr = htonl(INADDR_LOOPBACK)};

@@ -10,7 +10,7 @@ use Rattle.hoare_law.specs.declared.event.Event.{Event}
 use Rattle.hoare_law.specs.declared.event.History.{History}
 use Rattle.hoare_law.specs.declared.turn.Turn.TheVariants.{Owed}
 use Rattle.hoare_law.specs.declared.event.Event.TheVariants.{Admit, Wait, Signal, Pass, Leave, Resume, Back, Notify}
-use Rattle.hoare_law.specs.declared.event.Event.TheVariants.{Broadcast}
+use Rattle.hoare_law.specs.declared.event.Event.TheVariants.{Broadcast, SignalTo}
 use Rattle.hoare_law.specs.Events.{place_of, own, newest, with_event}
 use Rattle.hoare_law.specs.Waiting.{filter_by_later, waits_on, priority_of, condition_of, takes, concerns, is_last_act}
 use Rattle.hoare_law.specs.Waiting.{is_untouched, waiting, is_least, chosen}
@@ -87,6 +87,7 @@ module _ {S : Type 0} where
   same_parts (Admit k s) = (refl, refl, refl, λ c. refl, λ c j. refl, refl, refl, refl)
   same_parts (Wait k d p s) = (refl, refl, refl, λ c. refl, λ c j. refl, refl, refl, refl)
   same_parts (Signal k d w s) = (refl, refl, refl, λ c. refl, λ c j. refl, refl, refl, refl)
+  same_parts (SignalTo k d w s) = (refl, refl, refl, λ c. refl, λ c j. refl, refl, refl, refl)
   same_parts (Pass k d w s) = (refl, refl, refl, λ c. refl, λ c j. refl, refl, refl, refl)
   same_parts (Leave k s) = (refl, refl, refl, λ c. refl, λ c j. refl, refl, refl, refl)
   same_parts (Resume k d s) = (refl, refl, refl, λ c. refl, λ c j. refl, refl, refl, refl)
@@ -199,6 +200,7 @@ module _ {S : Type 0} where
   called_by-dataless f (Admit k s) = refl
   called_by-dataless f (Wait k c p s) = refl
   called_by-dataless f (Signal k c w s) = refl
+  called_by-dataless f (SignalTo k c w s) = refl
   called_by-dataless f (Pass k c w s) = refl
   called_by-dataless f (Leave k s) = refl
   called_by-dataless f (Resume k c s) = refl

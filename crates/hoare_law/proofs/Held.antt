@@ -33,6 +33,11 @@ pub data Hand : Type 0 where
   by_signal : Hand
   by_signal_to : Hand
 
+-- a pass if the flag is true, else a signal
+abbrev pub hand_of : Bool → Hand
+hand_of true = by_pass
+hand_of false = by_signal
+
 -- k hands off the monitor to w, which waits on c
 abbrev pub handing : {S : Type 0} → Hand → ℕ → ℕ → ℕ → S → Event S
 handing by_pass k c w s = Pass k c w s

@@ -27,7 +27,7 @@ use Rattle.hoare_law.proofs.Waiting.{waiting-push}
 use Rattle.hoare_law.proofs.Called.{called-push}
 use Rattle.hoare_law.proofs.Calling.{called_by-notify}
 use Rattle.hoare_law.proofs.Turns.{urgent-push, turn-push, outside-push, filter-map}
-use Rattle.hoare_law.proofs.Held.{handing, concerns-own}
+use Rattle.hoare_law.proofs.Held.{handing, hand_of, concerns-own}
 use Rattle.hoare_law.proofs.Legal.{IsLegal-push, IsLegal-none}
 use Rattle.hoare_law.proofs.Filters.{filter-all, filter-filter, filter-or, list_all-filter_none, map-none}
 use Rattle.hoare_law.proofs.Sorted.{in_order-filter, in_order-push, put_in-map}
@@ -371,7 +371,7 @@ after_handing false = after_signal
 
 -- a signal or a pass hands the monitor off to the chosen waiter
 pub after_handing-some : {D : Type 0} (out : Bool) (h : Log) (k c w : ℕ) (e : Act) (s : D) → place_of e ≡ w
-    → after_handing out h k c (Some e) ≡ with_event h (without_data (handing out k c w s))
+    → after_handing out h k c (Some e) ≡ with_event h (without_data (handing (hand_of out) k c w s))
 after_handing-some true h k c w e s is = ap (λ j. with_event h (Pass k c j tt)) is
 after_handing-some false h k c w e s is = ap (λ j. with_event h (Signal k c j tt)) is
 
@@ -407,7 +407,7 @@ module _ (b : Contents) (k c w : ℕ) (ws : List Waiter) (r : Resumes b k c w ws
   -- k hands the monitor off to the resumed place, and is among the signallers unless the signal is its last act
   handed_of : c < hoare_of b → (out : Bool)
       → IsOf (resumed ws (cond out b.signallers (b.signallers ++ k ∷ [])) w c b)
-      (with_event h (without_data (handing {S = Unit {0}} out k c w tt)))
+      (with_event h (without_data (handing {S = Unit {0}} (hand_of out) k c w tt)))
   handed_of l true =
       IsOf-push b (resumed ws b.signallers w c b) h (Pass k c w tt) o refl
       (record {

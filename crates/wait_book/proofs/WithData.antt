@@ -14,7 +14,7 @@ use Rattle.hoare_law.specs.Waiting.{priority_of, waiting, chosen}
 use Rattle.hoare_law.proofs.WithoutData.{turn-dataless, outside-dataless, priorities-dataless, dataless-push}
 use Rattle.hoare_law.proofs.WithoutData.{chosen-dataless}
 use Rattle.hoare_law.proofs.WithoutData.{place_of-dataless, priority_of-dataless, waiting-dataless}
-use Rattle.hoare_law.proofs.Held.{handing}
+use Rattle.hoare_law.proofs.Held.{handing, hand_of}
 use Rattle.hoare_law.proofs.Priorities.{waiting-no_priority, priorities-nobody}
 use Rattle.hoare_law.proofs.Sorted.{in_order-in_order, map-in_order}
 use Rattle.wait_book.specs.declared.waiter.Waiter.{Waiter}
@@ -76,8 +76,8 @@ module _ {D : Type 0} where
   pub IsOf-handing : (out : Bool) (b : Contents) (h : History D) (k c : ℕ) (x : Event D) (s : D)
       → chosen c h.events ≡ Some x
       → IsOf b (after_handing out (dataless h) k c (chosen c (dataless h).events))
-      → IsOf b (dataless (with_event h (handing out k c (place_of x) s)))
-  IsOf-handing out b h k c x s is o = IsOf-event b h (handing out k c (place_of x) s) (subst (IsOf b)
+      → IsOf b (dataless (with_event h (handing (hand_of out) k c (place_of x) s)))
+  IsOf-handing out b h k c x s is o = IsOf-event b h (handing (hand_of out) k c (place_of x) s) (subst (IsOf b)
       (ap (after_handing out (dataless h) k c) (chosen-dataless c h.events ∙ ap (option_map without_data) is)
       ∙ after_handing-some out (dataless h) k c (place_of x) (without_data x) s (place_of-dataless x)) o)
 

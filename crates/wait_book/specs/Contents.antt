@@ -41,6 +41,10 @@ SameSizes old new =
 abbrev pub waiters_on : ℕ → Contents → List Waiter
 waiters_on c b = filter (λ w. w.condition == c) b.waiters
 
+-- the waiters on c whose place is w: one, if w waits there, or none
+abbrev pub waits_of : ℕ → ℕ → Contents → List Waiter
+waits_of w c b = filter (λ (v : Waiter). v.place == w) (waiters_on c b)
+
 -- the waiting priorities of c
 abbrev pub priorities_on : Contents → ℕ → List ℕ
 priorities_on b c = in_order (λ p. p) (map (λ (w : Waiter). w.priority) (waiters_on c b))

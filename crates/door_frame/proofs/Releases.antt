@@ -18,7 +18,7 @@ use Rattle.hoare_law.specs.Waiting.{chosen, Chooses}
 use Rattle.hoare_law.proofs.Entering.{outside-same}
 use Rattle.hoare_law.proofs.Growth.{Begins-refl}
 use Rattle.hoare_law.proofs.Entering as entering
-use Rattle.hoare_law.proofs.Held.{is_inside, handing, place_of-handing, data_of-handing}
+use Rattle.hoare_law.proofs.Held.{is_inside, handing, hand_of, place_of-handing, data_of-handing}
 use Rattle.hoare_law.proofs.Leaving.{given_up-left, turn-handing, outside-left, chosen-some, Chooses-place}
 use Rattle.hoare_law.proofs.Leaving.{Allowed-leave}
 use Rattle.hoare_law.proofs.Leaving.{Allowed-wait, Allowed-handing}
@@ -46,7 +46,7 @@ held_next (Owed k c) j e = absurd (cc)
 held_next (Return k) j e = absurd (cc)
 
 module _ {D : Type 0} where
-  out-handing : (out : Bool) (k c w : ℕ) (s : D) → is_inside (handing out k c w s) ≡ false
+  out-handing : (out : Bool) (k c w : ℕ) (s : D) → is_inside (handing (hand_of out) k c w s) ≡ false
   out-handing true k c w s = refl
   out-handing false k c w s = refl
 
@@ -193,35 +193,39 @@ module _ {D : Type 0} where
         let after = IsOf-handing out b f k c e.0 x.state e.1 book in record {
           chosen_one = e.0;
           is = e.1;
-          goes_on = handed_to (with_event f (handing out k c w x.state)) w c b who after
-              (turn-handing out f k c w x.state) is;
+          goes_on = handed_to (with_event f (handing (hand_of out) k c w x.state)) w c b who after
+              (turn-handing (hand_of out) f k c w x.state) is;
         }
 
     allowed_handing : (out : Bool) (c : ℕ) (e : Event D) → Holds rest ready kinds d i t k f me x
         → IsHoare kinds.conditions kinds.mesa c → chosen c f.events ≡ Some e
-        → Allowed f (handing out k c (place_of e) x.state)
+        → Allowed f (handing (hand_of out) k c (place_of e) x.state)
     allowed_handing out c e h hoare is =
-        Allowed-handing out f k c e x.state h.within.stands.legal h.within.is_inside
+        Allowed-handing (hand_of out) f k c e x.state h.within.stands.legal h.within.is_inside
         (sized_here (λ n. IsHoare n.conditions n.mesa c) h hoare) is
 
     owes_handing : (out : Bool) (c : ℕ) (e : Event D) → Holds rest ready kinds d i t k f me x
         → chosen c f.events ≡ Some e → Handed ready c i
-        → Owes rest ready f.events (handing out k c (place_of e) x.state)
+        → Owes rest ready f.events (handing (hand_of out) k c (place_of e) x.state)
     owes_handing out c e h is asked =
-        Owes-handing rest ready out f k c e x.state h.within.is_inside is (asked_here (Handed ready c) h asked)
+        Owes-handing rest ready (hand_of out) f k c e x.state h.within.is_inside is
+        (asked_here (Handed ready c) h asked)
 
     pub gives_handing : (out : Bool) (c : ℕ) (b : Contents) (who : Next) → Holds rest ready kinds d i t k f me x
         → IsHoare kinds.conditions kinds.mesa c
         → priorities i.front.events c ≢ [] → Handed ready c i
         → IsOf b (after_handing out (dataless f) k c (chosen c (dataless f).events)) → who ≡ next_of b.turn
-        → MayGive rest ready (λ s. handing out k c (place_for who) s) k me (record { state = x.state; book = b }) who
+        → MayGive rest ready (λ s. handing (hand_of out) k c (place_for who) s) k me
+        (record { state = x.state; book = b }) who
     gives_handing out c b who h hoare some asked book is =
         let r = resumes_handing out c b who h some book is in
         let w : ℕ = place_of r.chosen_one in
-        subst (λ (j : ℕ). MayGive rest ready (λ s. handing out k c j s) k me (record { state = x.state; book = b }) who)
+        subst
+        (λ (j : ℕ). MayGive rest ready (λ s. handing (hand_of out) k c j s) k me (record { state = x.state; book = b })
+        who)
         (sym r.goes_on)
-        (may_give (λ s. handing out k c w s) b who h (place_of-handing out k c w x.state)
-        (data_of-handing out k c w x.state)
+        (may_give (λ s. handing (hand_of out) k c w s) b who h (place_of-handing (hand_of out) k c w x.state)
+        (data_of-handing (hand_of out) k c w x.state)
         (out-handing out k c w x.state) (allowed_handing out c r.chosen_one h hoare r.is)
         (owes_handing out c r.chosen_one h r.is asked)
         (IsOf-handing out b f k c r.chosen_one x.state r.is book) is)
@@ -271,12 +275,12 @@ module _ {D : Type 0} where
     pub next_handing : (out : Bool) (c : ℕ) (b : Contents) (who : Next) (z : PlaceId) (o : PlaceOut D)
         → Holds rest ready kinds d i t k f me x → priorities i.front.events c ≢ []
         → IsOf b (after_handing out (dataless f) k c (chosen c (dataless f).events)) → who ≡ next_of b.turn
-        → o ≡ place_out z k (with_event f (handing out k c (place_for who) x.state))
+        → o ≡ place_out z k (with_event f (handing (hand_of out) k c (place_for who) x.state))
         → who ≡ next_of (turn o.front.events)
     next_handing out c b who z o h some book answered is =
         let r = resumes_handing out c b who h some book answered in
-        next_after (handing out k c (place_for who) x.state) b who z o h
-        (subst (λ (j : ℕ). IsOf b (dataless (with_event f (handing out k c j x.state)))) (sym r.goes_on)
+        next_after (handing (hand_of out) k c (place_for who) x.state) b who z o h
+        (subst (λ (j : ℕ). IsOf b (dataless (with_event f (handing (hand_of out) k c j x.state)))) (sym r.goes_on)
         (IsOf-handing out b f k c r.chosen_one x.state r.is book)) answered is
 
     -- the place after an event by which it is away
@@ -328,7 +332,7 @@ module _ {D : Type 0} where
         (sym r.goes_on)
         (went_off (Signal k c (place_of r.chosen_one) x.state) z o h
         (allowed_handing false c r.chosen_one h hoare r.is) (owes_handing false c r.chosen_one h r.is asked)
-        (signalled f c (place_of r.chosen_one) x.state refl) same)
+        (signalled f (Signal k c (place_of r.chosen_one) x.state) refl refl refl) same)
         gone in record {
           of = out.of;
           place = asked_back (λ j. o.place ≡ j.place) h out.place;

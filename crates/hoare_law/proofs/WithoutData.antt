@@ -251,6 +251,36 @@ module _ {S : Type 0} where
       ∙ find-map without_data (is_least (all_without_data (waiting c h))) (waiting c h)
       ∙ ap (option_map without_data) (find-same _ (is_least (waiting c h)) (waiting c h) (least-dataless (waiting c h)))
 
+  -- the wait of a place is the same
+  pub wait_by-dataless : (w c : ℕ) (h : List (Event S))
+      → wait_by w c (all_without_data h) ≡ option_map without_data (wait_by w c h)
+  unfolding wait_by
+  wait_by-dataless w c h =
+      ap (find (λ e. place_of e == w)) (waiting-dataless c h)
+      ∙ find-map without_data (λ e. place_of e == w) (waiting c h)
+      ∙ ap (option_map without_data)
+      (find-same _ (λ e. place_of e == w) (waiting c h) (λ e. ap (λ k. k == w) (place_of-dataless e)))
+
+  -- the same places wait
+  pub waiting_place-dataless : (w c : ℕ) (h : List (Event S)) → IsWaiting c (all_without_data h) w ↔ IsWaiting c h w
+  waiting_place-dataless w c h = (back, forth)
+    where
+      back : IsWaiting c (all_without_data h) w → IsWaiting c h w
+      back is =
+          let r = waiting-wait_by c w (all_without_data h) is in
+          by (wait_by w c h) refl (sym (wait_by-dataless w c h) ∙ r.1)
+        where
+          by : (o : Option (Event S)) → wait_by w c h ≡ o → option_map without_data (wait_by w c h) ≡ Some r.0
+              → IsWaiting c h w
+          by None none some = let no : None ≡ Some r.0 = sym (ap (option_map without_data) none) ∙ some in absurd (cc)
+          by (Some x) found some = IsWaiting-by c w h x found
+
+      forth : IsWaiting c h w → IsWaiting c (all_without_data h) w
+      forth is =
+          let r = waiting-wait_by c w h is in
+          IsWaiting-by c w (all_without_data h) (without_data r.0)
+          (wait_by-dataless w c h ∙ ap (option_map without_data) r.1)
+
   priorities_at : (h : List (Event S)) (c : ℕ) → priorities (all_without_data h) c ≡ priorities h c
   unfolding priorities
   priorities_at h c =

@@ -8,7 +8,8 @@ use Rattle.hoare_law.specs.declared.event.Event.TheVariants.{Broadcast, SignalTo
 use Rattle.hoare_law.specs.declared.turn.Turn.TheVariants.{Owed, Return}
 use Rattle.hoare_law.specs.Internal.WithoutData.{dataless}
 use Rattle.hoare_law.specs.Events.{place_of, own, newest, with_event}
-use Rattle.hoare_law.specs.Growth.{Begins, Signals, resumed_one}
+use Rattle.hoare_law.specs.Growth.{Begins, Signals, resumed_one, SignalsTo, resumed_it}
+use Rattle.hoare_law.specs.Waiting.{IsWaiting}
 use Rattle.hoare_law.specs.Sizes.{IsHoare, IsMesa, Kinds, sizes_at}
 use Rattle.hoare_law.specs.Lawful.{Rest, Ready, Stands}
 use Rattle.hoare_law.specs.Legal.{Allowed}
@@ -213,3 +214,15 @@ module _ {D : Type 0} where
           subst (λ (k : ℕ). IsReturned rest ready kinds k i.front e j) place
           (back.returned i.front e refl (sym place) hands.front) in
           (resumed_one hands.goes_on hands.is_chosen r.front, r.rests)
+
+      -- both halves of a signal to a place
+      pub signalled_to_back : (o : PlaceOut D) (i j : PlaceIn D) (c w : ℕ) → o.place ≡ i.place
+          → o.front ≡ with_event i.front (SignalTo i.place c w i.state) → IsWaiting c i.front.events w
+          → IsBack rest ready kinds d o j
+          → SignalsTo i.place c w i.state j.state i.front j.front true × rest j.state (priorities j.front.events)
+      signalled_to_back o i j c w place front waits back =
+          let e : Event D = SignalTo i.place c w i.state in
+          let r =
+          subst (λ (k : ℕ). IsReturned rest ready kinds k i.front e j) place
+          (back.returned i.front e refl (sym place) front) in
+          (resumed_it waits r.front, r.rests)

@@ -12,8 +12,8 @@ use Rattle.hoare_law.specs.Events.{own, place_of, latest_data, with_event}
 use Rattle.hoare_law.specs.Turns.{is_signal, turn, outside}
 use Rattle.hoare_law.specs.Growth.{Begins, AddsLast, AddsTwo}
 use Rattle.hoare_law.specs.Lawful.{Rest, Ready, Stands}
-use Rattle.hoare_law.specs.Priorities.{priorities, taken}
-use Rattle.hoare_law.specs.Waiting.{Chooses}
+use Rattle.hoare_law.specs.Priorities.{priorities, taken, left_by}
+use Rattle.hoare_law.specs.Waiting.{Chooses, priority_of, wait_by}
 use Rattle.wait_book.specs.declared.steps.Next.{Next}
 use Rattle.wait_book.specs.declared.steps.Next.TheVariants.{For}
 
@@ -73,6 +73,12 @@ module _ {D : Type 0} where
   -- ready holds for the first waiter on c, of the data of the place inside and of the lists without that waiter
   abbrev pub Handed : Ready D → ℕ → PlaceIn D → Type 0
   Handed ready c i = ready c (slice_index (priorities i.front.events c) 0) i.state (taken (priorities i.front.events) c)
+
+  -- ready holds for w, if w waits on c, of the data of the place inside and of the lists without that waiter
+  abbrev pub HandedTo : Ready D → ℕ → ℕ → PlaceIn D → Type 0
+  HandedTo ready c w i =
+      (x : Event D) → wait_by w c i.front.events ≡ Some x
+      → ready c (priority_of x) i.state (left_by (priorities i.front.events) c (priority_of x))
 
   -- the places k, .., k + n - 1 of the door, with one front
   abbrev pub places_from : DoorId → ℕ → ℕ → History D → List (PlaceOut D)

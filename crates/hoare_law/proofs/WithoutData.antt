@@ -1,6 +1,7 @@
 -- Which processes wait, which is chosen, whose turn it is and which places are outside don't depend on the data.
 use Rattle.std.proofs.Common.{◌≡◌, ◌==◌, ◌&&◌, ◌||◌, not, ℕ, List, [], ◌∷◌, ◌++◌, map, Bool, true, false, cond, leb}
 use Rattle.std.proofs.Common.{Option, Some, None, refl, ap, sym, ◌∙◌}
+use Rattle.std.specs.Prelude.{◌↔◌}
 use Rattle.std.specs.Option.{option_map}
 use Rattle.std.specs.List.{find, filter}
 use Rattle.std.proofs.lemmas.List.{map-append}
@@ -13,7 +14,7 @@ use Rattle.hoare_law.specs.declared.event.Event.TheVariants.{Admit, Wait, Signal
 use Rattle.hoare_law.specs.declared.event.Event.TheVariants.{Broadcast, SignalTo}
 use Rattle.hoare_law.specs.Events.{place_of, own, newest, with_event}
 use Rattle.hoare_law.specs.Waiting.{filter_by_later, waits_on, priority_of, condition_of, takes, concerns, is_last_act}
-use Rattle.hoare_law.specs.Waiting.{is_untouched, waiting, is_least, chosen}
+use Rattle.hoare_law.specs.Waiting.{is_untouched, waiting, is_least, chosen, wait_by, IsWaiting}
 use Rattle.hoare_law.specs.Called.{join_splits, called_by, called}
 use Rattle.hoare_law.specs.Turns.{After, stays, frees, hands, after, is_signal, urgent, turn, turn_of, turn_by}
 use Rattle.hoare_law.specs.Turns.{turn_given_up, turn_after, is_out, outside}
@@ -21,6 +22,7 @@ use Rattle.hoare_law.specs.Priorities.{put_in, put_all, in_order, priorities}
 use Rattle.hoare_law.specs.Internal.WithoutData.{without_data, all_without_data, dataless}
 use Rattle.hoare_law.proofs.Turns.{filter-map}
 use Rattle.hoare_law.proofs.Filters.{list_all-same, find-same}
+use Rattle.hoare_law.proofs.Priorities.{waiting-wait_by, IsWaiting-by}
 use Rattle.hoare_law.proofs.Sorted.{map-in_order, put_in-map}
 
 -- maps and filters commute
@@ -265,15 +267,15 @@ module _ {S : Type 0} where
   pub waiting_place-dataless : (w c : ℕ) (h : List (Event S)) → IsWaiting c (all_without_data h) w ↔ IsWaiting c h w
   waiting_place-dataless w c h = (back, forth)
     where
+      by : (o : Option (Event S)) → wait_by w c h ≡ o → (y : Event (Unit {0}))
+          → option_map without_data (wait_by w c h) ≡ Some y → IsWaiting c h w
+      by None none y some = let no : None ≡ Some y = sym (ap (option_map without_data) none) ∙ some in absurd (cc)
+      by (Some x) found y some = IsWaiting-by c w h x found
+
       back : IsWaiting c (all_without_data h) w → IsWaiting c h w
       back is =
           let r = waiting-wait_by c w (all_without_data h) is in
-          by (wait_by w c h) refl (sym (wait_by-dataless w c h) ∙ r.1)
-        where
-          by : (o : Option (Event S)) → wait_by w c h ≡ o → option_map without_data (wait_by w c h) ≡ Some r.0
-              → IsWaiting c h w
-          by None none some = let no : None ≡ Some r.0 = sym (ap (option_map without_data) none) ∙ some in absurd (cc)
-          by (Some x) found some = IsWaiting-by c w h x found
+          by (wait_by w c h) refl r.0 (sym (wait_by-dataless w c h) ∙ r.1)
 
       forth : IsWaiting c h w → IsWaiting c (all_without_data h) w
       forth is =

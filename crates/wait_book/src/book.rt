@@ -60,7 +60,7 @@ impl Book {
     ghost use Rattle.hoare_law.specs.declared.event.Event.TheVariants as event;
     ghost use Rattle.hoare_law.specs.declared.turn.Turn.TheVariants as turns;
     ghost use Rattle.hoare_law.specs.Events.{opened, with_event};
-    ghost use Rattle.hoare_law.specs.Waiting.{waiting, chosen, priority_of, wait_by};
+    ghost use Rattle.hoare_law.specs.Waiting.{waiting, chosen, priority_of, wait_by, IsWaiting};
     ghost use Rattle.hoare_law.specs.Turns.{turn, outside};
     ghost use Rattle.hoare_law.specs.Sizes.{IsHoare, IsMesa, sizes_of};
     ghost use Rattle.hoare_law.specs.Priorities.{joined, taken, emptied};
@@ -182,6 +182,21 @@ impl Book {
             → result ≡ option_map priority_of (chosen condition h.events) }
     {
         first_priority(&self.chains, condition)
+    }
+
+    /// Returns true if `place` waits on `condition`.
+    pub fn has_waiter(&self, condition: usize, place: usize) -> bool
+        requires { condition < self.now.sizes.conditions }
+        ensures lists { IsTrue result ↔ (waits_of place condition self.now ≢ []) }
+        ensures of { (h : History (Unit {0})) → IsOf self.now h
+            → (IsTrue result ↔ IsWaiting condition h.events place) }
+    {
+        for link in self.chains.on(condition) {
+            if link.place == place {
+                return true;
+            }
+        }
+        false
     }
 
     /// Returns the number of `place` among the processes that were notified and haven't resumed yet: 1 if it resumes

@@ -1,13 +1,14 @@
 -- The lists of the chains: what another list in one of them does to all.
 use Rattle.std.proofs.Common.{◌≡◌, ◌≢◌, ℕ, zero, suc, ◌+◌, ◌<◌, ◌≤◌, Bool, true, false, cond, eqb, eqb-true, List, []}
-use Rattle.std.proofs.Common.{◌∷◌, ◌++◌, length, map, Option, Some, None, refl, ap, sym, ◌∙◌, arith}
+use Rattle.std.proofs.Common.{IsTrue, is_some, ◌∷◌, ◌++◌, length, map, Option, Some, None, refl, ap, sym, ◌∙◌, arith}
+use Rattle.std.specs.Prelude.{◌↔◌}
 use Rattle.std.proofs.lemmas.Bool.Decides.{nat_tests}
 use Rattle.std.proofs.lemmas.List.{length-append, length-map, map-append}
 use Rattle.wait_book.specs.declared.chains.Link.{Link}
 use Rattle.wait_book.specs.Contents.{one, times}
 use Rattle.wait_book.specs.Lists.{all_below, keys, keys_of, last_from, list_put, places_in}
 use Rattle.hoare_law.proofs.Tests.{eq_swap}
-use Rattle.wait_book.proofs.Times.{eq_self, one_apart, times-append}
+use Rattle.wait_book.proofs.Times.{eq_self, one_apart, one_same, times-append}
 
 pub eq_apart : (d c : ℕ) → d ≢ c → eqb d c ≡ false
 eq_apart d c n = grind (arith, nat_tests)
@@ -195,3 +196,20 @@ stands_nowhere place start (x ∷ xs) e =
         → one place x.place + times place (places_in xs) ≡ 0
     by true q r f = absurd (cc)
     by false q r f = omega (arith, r f, place_apart place x q)
+
+-- a link of the list has the place exactly if one was found
+pub stands_somewhere : (place : ℕ) (xs : List Link) (found : Option (Option ℕ × ℕ)) (r : Bool)
+    → found ≡ keys_of place None xs → r ≡ is_some found → IsTrue r ↔ (times place (places_in xs) ≢ 0)
+stands_somewhere place xs None r is told = (
+  (λ yes none. let no : true ≡ false = sym yes ∙ told in absurd (cc)),
+  (λ some. absurd (some (stands_nowhere place None xs (sym is)))),
+)
+stands_somewhere place xs (Some p) r is told =
+    let s : Stands place None xs p.0 p.1 = stands place None xs p.0 p.1 (sym is) in
+    let all : times place (places_in xs) ≡ times place (places_in (s.before ++ s.link ∷ s.after)) =
+    ap (λ ys. times place (places_in ys)) s.is in
+    (
+      (λ yes none. absurd (omega (arith, none, all, places_middle place s.before s.link s.after,
+      ap (one place) s.link_place, one_same place))),
+      λ some. told,
+    )

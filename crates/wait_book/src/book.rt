@@ -191,12 +191,7 @@ impl Book {
         ensures of { (h : History (Unit {0})) → IsOf self.now h
             → (IsTrue result ↔ IsWaiting condition h.events place) }
     {
-        for link in self.chains.on(condition) {
-            if link.place == place {
-                return true;
-            }
-        }
-        false
+        self.chains.has(condition, place)
     }
 
     /// Returns the number of `place` among the processes that were notified and haven't resumed yet: 1 if it resumes

@@ -1,13 +1,14 @@
 //! The chains of a book: the waiters on each condition, the waiting signallers, and the notified processes. The nodes
 //! of all chains are in one slab, and each holds the key of the next node.
 ghost use Rattle.std.specs.Prelude.{◌≡◌, ◌<◌, ◌≤◌, ◌==◌, ℕ, [], ◌∷◌, ◌++◌, List, Option, Some, None, is_some};
+ghost use Rattle.std.specs.Prelude.{◌≢◌, ◌↔◌, IsTrue};
 ghost use Rattle.std.specs.Prelude.{if◌then◌else◌, not, IfOk, IfSome, MatchOption};
 ghost use Rattle.std.specs.List.Sorted.{IsNonDecreasing};
 ghost use Rattle.slab.specs.Slab.{ContainsKey};
 ghost use Rattle.wait_book.specs.declared.chains.Link.{Link};
 ghost use Rattle.wait_book.specs.Contents.{times};
 ghost use Rattle.wait_book.specs.Lists.{CallsFirst, IsJoined, IsPut, IsTaken, TakesOut, first_link, higher, keys_of};
-ghost use Rattle.wait_book.specs.Lists.{last_key, list_at, list_put, lower, places_below, priorities, total};
+ghost use Rattle.wait_book.specs.Lists.{last_key, list_at, list_put, lower, places_below, places_in, priorities, total};
 ghost use Rattle.wait_book.specs.Chains.{IsKeyPut, IsLinked};
 
 mod links;
@@ -295,6 +296,14 @@ impl Chains {
         let place = node.place as usize;
         self.standing[place] = false;
         Some(place)
+    }
+
+    /// Returns true if `place` is in `chain`. Walks the chain from the first, up to that link.
+    pub(crate) fn has(&self, chain: usize, place: usize) -> bool
+        requires { chain < CHAINS }
+        ensures { IsTrue result ↔ (times place (places_in (list_at self.now chain)) ≢ 0) }
+    {
+        self.find(chain, place).is_some()
     }
 
     // Finds the node of `place` in `chain`. Returns the key of the node before it, which is `None` if it is the first,

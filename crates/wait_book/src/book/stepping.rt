@@ -6,7 +6,7 @@ use crate::steps::{Next, Step, StepRefused};
 use hoare_law::turn::Turn;
 
 impl Book {
-    ghost use Rattle.std.specs.Prelude.{◌≡◌, ◌<◌, ◌==◌, ℕ, MatchResult, IfOk, OnErr, Some, None, Option};
+    ghost use Rattle.std.specs.Prelude.{◌≡◌, ◌<◌, ◌==◌, ℕ, MatchResult, IfOk, OnErr, Some, None, Option, false};
     ghost use Rattle.hoare_law.specs.declared.event.History.{History};
     ghost use Rattle.hoare_law.specs.declared.turn.Turn.TheVariants as turns;
     ghost use Rattle.wait_book.specs.declared.steps.StepRefused.{StepRefused};

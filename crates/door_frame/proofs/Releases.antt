@@ -245,15 +245,15 @@ module _ {D : Type 0} where
 
     waiter_here : (c w : ℕ) → Holds rest ready kinds d i t k f me x → IsWaiting c i.front.events w
         → (e : Event D) × (wait_by w c f.events ≡ Some e) × (place_of e ≡ w)
-    waiter_here c w h waits =
-        waiting-wait_by c w f.events (asked_here (λ j. IsWaiting c j.front.events w) h waits)
+    waiter_here c w h is_there =
+        waiting-wait_by c w f.events (asked_here (λ j. IsWaiting c j.front.events w) h is_there)
 
     pub gives_signal_to : (c w : ℕ) (b : Contents) (who : Next) → Holds rest ready kinds d i t k f me x
         → IsHoare kinds.conditions kinds.mesa c → IsWaiting c i.front.events w → HandedTo ready c w i
         → IsOf b (after_signal_to (dataless f) k c w (wait_by w c (dataless f).events)) → who ≡ next_of b.turn
         → MayGive rest ready (event_of k (release.SignalTo c w) who) k me (record { state = x.state; book = b }) who
-    gives_signal_to c w b who h hoare waits asked book is =
-        let e = waiter_here c w h waits in
+    gives_signal_to c w b who h hoare is_there asked book is =
+        let e = waiter_here c w h is_there in
         may_give (λ s. SignalTo k c w s) b who h refl refl refl (allowed_signal_to c w e.0 h hoare e.1)
         (owes_signal_to c w e.0 h e.1 asked) (IsOf-signal_to b f k c w e.0 x.state e.1 book) is
 
@@ -372,8 +372,8 @@ module _ {D : Type 0} where
         → IsWaiting c i.front.events w → HandedTo ready c w i
         → z ≡ t → o ≡ place_out z k (with_event f (SignalTo k c w x.state))
         → Departs rest ready kinds d i.place (with_event i.front (SignalTo i.place c w i.state)) o
-    handed_to_it c w b who z o h hoare waits asked same is =
-        let e = waiter_here c w h waits in
+    handed_to_it c w b who z o h hoare is_there asked same is =
+        let e = waiter_here c w h is_there in
         asked_back (λ j. Departs rest ready kinds d j.place (with_event j.front (SignalTo j.place c w j.state)) o) h
         (went_off (SignalTo k c w x.state) z o h (allowed_signal_to c w e.0 h hoare e.1)
         (owes_signal_to c w e.0 h e.1 asked) (signalled f (SignalTo k c w x.state) refl refl refl) same is)
@@ -383,8 +383,8 @@ module _ {D : Type 0} where
         → IsOf b (after_signal_to (dataless f) k c w (wait_by w c (dataless f).events)) → who ≡ next_of b.turn
         → o ≡ place_out z k (with_event f (SignalTo k c w x.state))
         → who ≡ next_of (turn o.front.events)
-    next_signal_to c w b who z o h waits book answered is =
-        let e = waiter_here c w h waits in
+    next_signal_to c w b who z o h is_there book answered is =
+        let e = waiter_here c w h is_there in
         next_after (SignalTo k c w x.state) b who z o h (IsOf-signal_to b f k c w e.0 x.state e.1 book) answered is
 
     pub left : (z : PlaceId) (o : PlaceOut D) → Holds rest ready kinds d i t k f me x

@@ -222,6 +222,19 @@ pub extern "C" fn zaulinte_door_signal(place: &mut HeldPlace, condition: u64) ->
     place.act(Signal(condition))
 }
 
+/// Lets the place signal to the place `waiter` on `condition`, one of Hoare's. If that place waits there, whoever else
+/// waits, returns its number, and it is to be woken: then this place is away, and attempts to return once it is woken.
+/// Returns 64 if it doesn't wait there (also if no place has that number): this place is still inside. Refused, in this
+/// order: 107 no place is held, 104 not inside, 105 no such condition, 106 a Mesa condition.
+#[unsafe(no_mangle)]
+pub extern "C" fn zaulinte_door_signal_to(place: &mut HeldPlace, condition: u64, waiter: u64) -> u64
+    ensures acted { place.old.live ≡ 1
+        → Acted (act.SignalTo condition waiter) place.old.handle.value place.new.live place.new.handle.value result }
+    ensures none { place.old.live ≡ 0 → (result ≡ 107) × (place.new ≡ place.old) }
+{
+    place.act(SignalTo(condition, waiter))
+}
+
 /// Lets the place signal `condition`, one of Hoare's, as its last act, and writes 1 to `resumed` if a place waited on
 /// the condition, else 0. Returns the place to wake, or 64: if a place waited, it is the place that the signal resumed.
 /// Refused, in this order: 107 no place is held, 104 not inside, 105 no such condition, 106 a Mesa condition; then

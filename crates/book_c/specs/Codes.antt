@@ -52,11 +52,11 @@ pub data Stepped (h : History (Unit {0})) (step : Step) (new : Contents) (code :
 
 -- what a signal of place k to place w on c made of a book of history h, and its code: as of a step
 pub data SignalledTo (h : History (Unit {0})) (k c w : ℕ) (new : Contents) (code : ℕ) : Type 0 where
-  done : act_refusal h k (kind_refusal h false c) ≡ None
+  was_done : act_refusal h k (kind_refusal h false c) ≡ None
       → IsOf new (settled (after_signal_to h k c w (wait_by w c h.events)))
       → Tells (settled (after_signal_to h k c w (wait_by w c h.events))) code
       → SignalledTo h k c w new code
-  refused : (r : StepRefused) → act_refusal h k (kind_refusal h false c) ≡ Some r → IsOf new h → code ≡ refusal_code r
+  was_refused : (r : StepRefused) → act_refusal h k (kind_refusal h false c) ≡ Some r → IsOf new h → code ≡ refusal_code r
       → SignalledTo h k c w new code
 
 -- such a signal that finds a book of a history leaves it there

@@ -13,7 +13,7 @@ ghost use Rattle.wait_book.specs.declared.steps.Step.TheVariants as steps;
 ghost use Rattle.wait_book.specs.Contents.{make_refusal};
 ghost use Rattle.book_c.specs.Held.{Holds};
 ghost use Rattle.book_c.specs.Codes.{LacksBook, RefusalKeeps, Steps, Tells, make_code, outside_code, queue_code};
-ghost use Rattle.book_c.specs.Codes.{first_or, condition_code, count_or};
+ghost use Rattle.book_c.specs.Codes.{SignalsTo, first_or, condition_code, count_or};
 
 mod codes;
 pub mod handle;

@@ -18,7 +18,7 @@ pub mod keeper_slot;
 pub mod place;
 
 use door::HeldDoor;
-use door_place::act::{Broadcast, Leave, Notify, Set, Signal, TryEnter, TryReturn, Wait};
+use door_place::act::{Broadcast, Leave, Notify, Set, Signal, SignalTo, TryEnter, TryReturn, Wait};
 use door_place::codes::{DONE, IN_USE, IS_HELD, NO_MEMORY, NOTHING_HELD};
 use door_place::keeper::Keeper;
 use hoare_law::event::Sizes;

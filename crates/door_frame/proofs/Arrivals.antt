@@ -3,16 +3,18 @@ use Rattle.std.proofs.Common.{◌≡◌, ℕ, true, Option, Some, None, refl, ap
 use Rattle.hoare_law.specs.declared.event.Sizes.{Sizes}
 use Rattle.hoare_law.specs.declared.event.Event.{Event}
 use Rattle.hoare_law.specs.declared.event.History.{History}
-use Rattle.hoare_law.specs.declared.event.Event.TheVariants.{Admit, Wait, Signal, Resume, Back}
+use Rattle.hoare_law.specs.declared.event.Event.TheVariants.{Admit, Wait, Signal, Pass, Leave, Resume, Back, Notify}
+use Rattle.hoare_law.specs.declared.event.Event.TheVariants.{Broadcast, SignalTo}
 use Rattle.hoare_law.specs.declared.turn.Turn.TheVariants.{Owed, Return}
 use Rattle.hoare_law.specs.Internal.WithoutData.{dataless}
 use Rattle.hoare_law.specs.Events.{place_of, own, newest, with_event}
-use Rattle.hoare_law.specs.Growth.{Begins, Signals, resumed_one}
+use Rattle.hoare_law.specs.Growth.{Begins, Signals, resumed_one, SignalsTo, resumed_it}
+use Rattle.hoare_law.specs.Waiting.{IsWaiting}
 use Rattle.hoare_law.specs.Sizes.{IsHoare, IsMesa, Kinds, sizes_at}
 use Rattle.hoare_law.specs.Lawful.{Rest, Ready, Stands}
 use Rattle.hoare_law.specs.Legal.{Allowed}
 use Rattle.hoare_law.specs.Priorities.{priorities}
-use Rattle.hoare_law.specs.Turns.{turn}
+use Rattle.hoare_law.specs.Turns.{is_signal, turn}
 use Rattle.hoare_law.proofs.Entering.{own-last, turn-in, sizes-with, AddsLast-one, AddsTwo-one, finds-admit, finds-back}
 use Rattle.hoare_law.proofs.Entering.{finds-resume, finds-called}
 use Rattle.hoare_law.proofs.Events.{newest-push}
@@ -40,6 +42,19 @@ module _ {D : Type 0} where
   due_mine : (k : ℕ) (o : Option ℕ) (s : D) → place_of (due_from k o s) ≡ k
   due_mine k None s = refl
   due_mine k (Some c) s = refl
+
+  -- a place whose last event is a signal awaits no condition
+  pub not_awaited : (e : Event D) → is_signal e ≡ true → awaited (Some e) ≡ None
+  not_awaited (Signal k c w s) is = refl
+  not_awaited (SignalTo k c w s) is = refl
+  not_awaited (Admit k s) is = refl
+  not_awaited (Wait k c p s) is = absurd (cc)
+  not_awaited (Pass k c w s) is = refl
+  not_awaited (Leave k s) is = refl
+  not_awaited (Resume k c s) is = refl
+  not_awaited (Back k s) is = refl
+  not_awaited (Notify k c w s) is = refl
+  not_awaited (Broadcast k c s) is = refl
 
   comes_back : (k : ℕ) (o : Option ℕ) → ComesBack k (due_from k o)
   comes_back k None = from_signal refl
@@ -162,20 +177,19 @@ module _ {D : Type 0} where
                       rests = λ called. finds-called rest ready log n c y.state
                           (sized (λ z. IsMesa z.conditions z.mesa c) called) stands;
                     });
-                returned = λ f c v s was.
-                    let w : Event D = Signal n c v s in
+                returned = λ f w signals mine was.
                     let e : Event D = Back n y.state in
                     let which : due n o.front y.state ≡ e =
-                    ap (λ (g : History D). due n g y.state) was ∙ due_own f n w y.state refl in
+                    ap (λ (g : History D). due n g y.state) was ∙ due_own f n w y.state mine
+                    ∙ ap (λ (c : Option ℕ). due_from n c y.state) (not_awaited w signals) in
                     let stands : Stands rest ready (with_event log e) =
                     subst (λ (u : Event D). Stands rest ready (with_event log u)) which b.stands in
                     let begins = subst (λ (g : History D). Begins g log) was b.begins in
                     let same = b.own_are ∙ ap (λ (g : History D). own n g.events) was in
-                    subst
-                    (λ (u : Event D). IsReturned rest ready kinds n f c v s (place_in t n (with_event log u) y.state))
+                    subst (λ (u : Event D). IsReturned rest ready kinds n f w (place_in t n (with_event log u) y.state))
                     (sym which)
                     (record {
-                      front = AddsTwo-one n f w log e refl refl begins same;
+                      front = AddsTwo-one n f w log e mine refl begins same;
                       rests = finds-back rest ready log n y.state stands;
                     });
               })
@@ -195,9 +209,20 @@ module _ {D : Type 0} where
           → IsBack rest ready kinds d o j
           → Signals i.place c i.state j.state i.front j.front true × rest j.state (priorities j.front.events)
       signalled_back o i j c place hands back =
+          let e : Event D = Signal i.place c hands.goes_on i.state in
           let r =
-          subst
-          (λ (k : ℕ). o.front ≡ with_event i.front (Signal k c hands.goes_on i.state)
-          → IsReturned rest ready kinds k i.front c hands.goes_on i.state j) place
-          (back.returned i.front c hands.goes_on i.state) hands.front in
+          subst (λ (k : ℕ). IsReturned rest ready kinds k i.front e j) place
+          (back.returned i.front e refl (sym place) hands.front) in
           (resumed_one hands.goes_on hands.is_chosen r.front, r.rests)
+
+      -- both halves of a signal to a place
+      pub signalled_to_back : (o : PlaceOut D) (i j : PlaceIn D) (c w : ℕ) → o.place ≡ i.place
+          → o.front ≡ with_event i.front (SignalTo i.place c w i.state) → IsWaiting c i.front.events w
+          → IsBack rest ready kinds d o j
+          → SignalsTo i.place c w i.state j.state i.front j.front true × rest j.state (priorities j.front.events)
+      signalled_to_back o i j c w place front waits back =
+          let e : Event D = SignalTo i.place c w i.state in
+          let r =
+          subst (λ (k : ℕ). IsReturned rest ready kinds k i.front e j) place
+          (back.returned i.front e refl (sym place) front) in
+          (resumed_it waits r.front, r.rests)

@@ -1,5 +1,6 @@
 -- What a call knows of the place inside that is passed to it.
-use Rattle.std.proofs.Common.{◌≡◌, ◌<◌, ℕ, [], ◌∷◌, None, sym, ap, ◌∙◌, subst}
+use Rattle.std.proofs.Common.{◌≡◌, ◌<◌, ℕ, Bool, IsTrue, [], ◌∷◌, None, sym, ap, ◌∙◌, subst}
+use Rattle.std.specs.Prelude.{◌↔◌}
 use Rattle.hoare_law.specs.declared.event.Sizes.{Sizes}
 use Rattle.hoare_law.specs.declared.event.History.{History}
 use Rattle.hoare_law.specs.Sizes.{Kinds, sizes_at}
@@ -7,7 +8,9 @@ use Rattle.hoare_law.specs.declared.turn.Turn.TheVariants.{Held}
 use Rattle.hoare_law.specs.Internal.WithoutData.{dataless}
 use Rattle.hoare_law.specs.Lawful.{Rest, Ready}
 use Rattle.hoare_law.specs.Priorities.{priorities}
+use Rattle.hoare_law.specs.Waiting.{IsWaiting}
 use Rattle.hoare_law.proofs.Waiters.{held-in_range}
+use Rattle.hoare_law.proofs.WithoutData.{waiting_place-dataless}
 use Rattle.wait_book.specs.Contents.{Contents, IsOf, priorities_on}
 use Rattle.wait_book.proofs.WithData.{turn-history, priorities_on-history}
 use Rattle.door_frame.specs.declared.guarded.BoxContents.{BoxContents}
@@ -75,3 +78,11 @@ module _ {D : Type 0} where
       → place_in t k f s ≡ i → priorities_on b ≡ priorities i.front.events
   listed_in_hand {f = f} {b = b} same inv view =
       priorities_on-history b f (book_in_hand same inv) ∙ ap (λ (j : PlaceIn D). priorities j.front.events) view
+
+  -- what a book says of a waiter holds of the contract's front
+  pub waits_in_hand : {t : PlaceId} {k : ℕ} {f : History D} {s : D} {i : PlaceIn D} (r : Bool) (c w : ℕ)
+      → place_in t k f s ≡ i → IsTrue r ↔ IsWaiting c (dataless f).events w → IsTrue r ↔ IsWaiting c i.front.events w
+  waits_in_hand {f = f} r c w view told =
+      let same = waiting_place-dataless w c f.events in
+      subst (λ (j : PlaceIn D). IsTrue r ↔ IsWaiting c j.front.events w) view
+      ((λ yes. same.0 (told.0 yes)), (λ waits. told.1 (same.1 waits)))

@@ -3,7 +3,7 @@ use Rattle.std.proofs.Common.{◌≡◌, ◌≢◌, ℕ, ◌<◌, Bool, true, fa
 use Rattle.hoare_law.specs.declared.event.Sizes.{Sizes}
 use Rattle.hoare_law.specs.declared.event.Event.{Event}
 use Rattle.hoare_law.specs.declared.event.History.{History}
-use Rattle.hoare_law.specs.declared.event.Event.TheVariants.{Wait, Signal, Pass, Leave}
+use Rattle.hoare_law.specs.declared.event.Event.TheVariants.{Wait, Signal, Pass, Leave, SignalTo}
 use Rattle.hoare_law.specs.declared.turn.Turn.{Turn}
 use Rattle.hoare_law.specs.declared.turn.Turn.TheVariants.{Free, Held, Owed, Return}
 use Rattle.hoare_law.specs.Internal.WithoutData.{dataless}
@@ -14,27 +14,29 @@ use Rattle.hoare_law.specs.Lawful.{Rest, Ready, Owes, Stands}
 use Rattle.hoare_law.specs.Legal.{Allowed}
 use Rattle.hoare_law.specs.Priorities.{priorities, joined}
 use Rattle.hoare_law.specs.Turns.{turn, is_out, IsGivenUp}
-use Rattle.hoare_law.specs.Waiting.{chosen, Chooses}
+use Rattle.hoare_law.specs.Waiting.{chosen, Chooses, wait_by, IsWaiting}
 use Rattle.hoare_law.proofs.Entering.{outside-same}
 use Rattle.hoare_law.proofs.Growth.{Begins-refl}
 use Rattle.hoare_law.proofs.Entering as entering
-use Rattle.hoare_law.proofs.Held.{is_inside, handing, place_of-handing, data_of-handing}
+use Rattle.hoare_law.proofs.Held.{is_inside, handing, hand_of, place_of-handing, data_of-handing}
 use Rattle.hoare_law.proofs.Leaving.{given_up-left, turn-handing, outside-left, chosen-some, Chooses-place}
 use Rattle.hoare_law.proofs.Leaving.{Allowed-leave}
-use Rattle.hoare_law.proofs.Leaving.{Allowed-wait, Allowed-handing}
-use Rattle.hoare_law.proofs.Leaving.{Owes-leave, Owes-wait, Owes-handing}
+use Rattle.hoare_law.proofs.Leaving.{Allowed-wait, Allowed-handing, Allowed-signal_to}
+use Rattle.hoare_law.proofs.Leaving.{Owes-leave, Owes-wait, Owes-handing, Owes-signal_to}
+use Rattle.hoare_law.proofs.Priorities.{waiting-wait_by}
 use Rattle.hoare_law.proofs.Legal.{Stands-push}
 use Rattle.hoare_law.proofs.Waiters.{held-in_range}
 use Rattle.wait_book.specs.declared.steps.Next.{Next}
 use Rattle.wait_book.specs.declared.steps.Next.TheVariants as next
 use Rattle.wait_book.specs.Contents.{Contents, IsOf, next_of}
-use Rattle.wait_book.specs.Stepping.{after_pass, after_signal}
+use Rattle.wait_book.specs.Stepping.{after_pass, after_signal, after_signal_to}
 use Rattle.wait_book.proofs.Histories.{after_handing}
-use Rattle.wait_book.proofs.WithData.{next-history, turn-history, IsOf-event, IsOf-handing}
+use Rattle.wait_book.proofs.WithData.{next-history, turn-history, IsOf-event, IsOf-handing, IsOf-signal_to}
 use Rattle.door_frame.specs.declared.guarded.Guarded.{Guarded}
 use Rattle.door_frame.specs.declared.release.Release.TheVariants as release
 use Rattle.door_frame.specs.Releases.{place_for, event_of}
 use Rattle.door_frame.specs.Places.{PlaceId, DoorId, IsOut, IsAway, PlaceOut, PlaceIn, Handed, HandsTo, Released, waits}
+use Rattle.door_frame.specs.Places.{HandedTo}
 use Rattle.door_frame.specs.Places.{signalled, place_id_at, place_in, place_out}
 use Rattle.door_frame.specs.Steps.{SeatState, Gives, MayGive}
 use Rattle.door_frame.proofs.Inside.{Holds}
@@ -46,7 +48,7 @@ held_next (Owed k c) j e = absurd (cc)
 held_next (Return k) j e = absurd (cc)
 
 module _ {D : Type 0} where
-  out-handing : (out : Bool) (k c w : ℕ) (s : D) → is_inside (handing out k c w s) ≡ false
+  out-handing : (out : Bool) (k c w : ℕ) (s : D) → is_inside (handing (hand_of out) k c w s) ≡ false
   out-handing true k c w s = refl
   out-handing false k c w s = refl
 
@@ -193,38 +195,67 @@ module _ {D : Type 0} where
         let after = IsOf-handing out b f k c e.0 x.state e.1 book in record {
           chosen_one = e.0;
           is = e.1;
-          goes_on = handed_to (with_event f (handing out k c w x.state)) w c b who after
-              (turn-handing out f k c w x.state) is;
+          goes_on = handed_to (with_event f (handing (hand_of out) k c w x.state)) w c b who after
+              (turn-handing (hand_of out) f k c w x.state) is;
         }
 
     allowed_handing : (out : Bool) (c : ℕ) (e : Event D) → Holds rest ready kinds d i t k f me x
         → IsHoare kinds.conditions kinds.mesa c → chosen c f.events ≡ Some e
-        → Allowed f (handing out k c (place_of e) x.state)
+        → Allowed f (handing (hand_of out) k c (place_of e) x.state)
     allowed_handing out c e h hoare is =
-        Allowed-handing out f k c e x.state h.within.stands.legal h.within.is_inside
+        Allowed-handing (hand_of out) f k c e x.state h.within.stands.legal h.within.is_inside
         (sized_here (λ n. IsHoare n.conditions n.mesa c) h hoare) is
 
     owes_handing : (out : Bool) (c : ℕ) (e : Event D) → Holds rest ready kinds d i t k f me x
         → chosen c f.events ≡ Some e → Handed ready c i
-        → Owes rest ready f.events (handing out k c (place_of e) x.state)
+        → Owes rest ready f.events (handing (hand_of out) k c (place_of e) x.state)
     owes_handing out c e h is asked =
-        Owes-handing rest ready out f k c e x.state h.within.is_inside is (asked_here (Handed ready c) h asked)
+        Owes-handing rest ready (hand_of out) f k c e x.state h.within.is_inside is
+        (asked_here (Handed ready c) h asked)
 
     pub gives_handing : (out : Bool) (c : ℕ) (b : Contents) (who : Next) → Holds rest ready kinds d i t k f me x
         → IsHoare kinds.conditions kinds.mesa c
         → priorities i.front.events c ≢ [] → Handed ready c i
         → IsOf b (after_handing out (dataless f) k c (chosen c (dataless f).events)) → who ≡ next_of b.turn
-        → MayGive rest ready (λ s. handing out k c (place_for who) s) k me (record { state = x.state; book = b }) who
+        → MayGive rest ready (λ s. handing (hand_of out) k c (place_for who) s) k me
+        (record { state = x.state; book = b }) who
     gives_handing out c b who h hoare some asked book is =
         let r = resumes_handing out c b who h some book is in
         let w : ℕ = place_of r.chosen_one in
-        subst (λ (j : ℕ). MayGive rest ready (λ s. handing out k c j s) k me (record { state = x.state; book = b }) who)
+        subst
+        (λ (j : ℕ). MayGive rest ready (λ s. handing (hand_of out) k c j s) k me (record { state = x.state; book = b })
+        who)
         (sym r.goes_on)
-        (may_give (λ s. handing out k c w s) b who h (place_of-handing out k c w x.state)
-        (data_of-handing out k c w x.state)
+        (may_give (λ s. handing (hand_of out) k c w s) b who h (place_of-handing (hand_of out) k c w x.state)
+        (data_of-handing (hand_of out) k c w x.state)
         (out-handing out k c w x.state) (allowed_handing out c r.chosen_one h hoare r.is)
         (owes_handing out c r.chosen_one h r.is asked)
         (IsOf-handing out b f k c r.chosen_one x.state r.is book) is)
+
+    allowed_signal_to : (c w : ℕ) (e : Event D) → Holds rest ready kinds d i t k f me x
+        → IsHoare kinds.conditions kinds.mesa c → wait_by w c f.events ≡ Some e → Allowed f (SignalTo k c w x.state)
+    allowed_signal_to c w e h hoare is =
+        Allowed-signal_to f k c w e x.state h.within.stands.legal h.within.is_inside
+        (sized_here (λ n. IsHoare n.conditions n.mesa c) h hoare) is
+
+    owes_signal_to : (c w : ℕ) (e : Event D) → Holds rest ready kinds d i t k f me x
+        → wait_by w c f.events ≡ Some e → HandedTo ready c w i → Owes rest ready f.events (SignalTo k c w x.state)
+    owes_signal_to c w e h is asked =
+        Owes-signal_to rest ready f k c w e x.state h.within.is_inside is (asked_here (HandedTo ready c w) h asked e is)
+
+    waiter_here : (c w : ℕ) → Holds rest ready kinds d i t k f me x → IsWaiting c i.front.events w
+        → (e : Event D) × (wait_by w c f.events ≡ Some e) × (place_of e ≡ w)
+    waiter_here c w h is_there =
+        waiting-wait_by c w f.events (asked_here (λ j. IsWaiting c j.front.events w) h is_there)
+
+    pub gives_signal_to : (c w : ℕ) (b : Contents) (who : Next) → Holds rest ready kinds d i t k f me x
+        → IsHoare kinds.conditions kinds.mesa c → IsWaiting c i.front.events w → HandedTo ready c w i
+        → IsOf b (after_signal_to (dataless f) k c w (wait_by w c (dataless f).events)) → who ≡ next_of b.turn
+        → MayGive rest ready (event_of k (release.SignalTo c w) who) k me (record { state = x.state; book = b }) who
+    gives_signal_to c w b who h hoare is_there asked book is =
+        let e = waiter_here c w h is_there in
+        may_give (λ s. SignalTo k c w s) b who h refl refl refl (allowed_signal_to c w e.0 h hoare e.1)
+        (owes_signal_to c w e.0 h e.1 asked) (IsOf-signal_to b f k c w e.0 x.state e.1 book) is
 
     -- the place outside after an event by which it leaves
     went_out : (e : Event D) (z : PlaceId) (o : PlaceOut D) → Holds rest ready kinds d i t k f me x → place_of e ≡ k
@@ -271,12 +302,12 @@ module _ {D : Type 0} where
     pub next_handing : (out : Bool) (c : ℕ) (b : Contents) (who : Next) (z : PlaceId) (o : PlaceOut D)
         → Holds rest ready kinds d i t k f me x → priorities i.front.events c ≢ []
         → IsOf b (after_handing out (dataless f) k c (chosen c (dataless f).events)) → who ≡ next_of b.turn
-        → o ≡ place_out z k (with_event f (handing out k c (place_for who) x.state))
+        → o ≡ place_out z k (with_event f (handing (hand_of out) k c (place_for who) x.state))
         → who ≡ next_of (turn o.front.events)
     next_handing out c b who z o h some book answered is =
         let r = resumes_handing out c b who h some book answered in
-        next_after (handing out k c (place_for who) x.state) b who z o h
-        (subst (λ (j : ℕ). IsOf b (dataless (with_event f (handing out k c j x.state)))) (sym r.goes_on)
+        next_after (handing (hand_of out) k c (place_for who) x.state) b who z o h
+        (subst (λ (j : ℕ). IsOf b (dataless (with_event f (handing (hand_of out) k c j x.state)))) (sym r.goes_on)
         (IsOf-handing out b f k c r.chosen_one x.state r.is book)) answered is
 
     -- the place after an event by which it is away
@@ -328,13 +359,33 @@ module _ {D : Type 0} where
         (sym r.goes_on)
         (went_off (Signal k c (place_of r.chosen_one) x.state) z o h
         (allowed_handing false c r.chosen_one h hoare r.is) (owes_handing false c r.chosen_one h r.is asked)
-        (signalled f c (place_of r.chosen_one) x.state refl) same)
+        (signalled f (Signal k c (place_of r.chosen_one) x.state) refl refl refl) same)
         gone in record {
           of = out.of;
           place = asked_back (λ j. o.place ≡ j.place) h out.place;
           front = asked_back (λ j. HandsTo c j o.front) h
               (record { goes_on = w; is_chosen = chooses c f who r; front = out.front });
         }
+
+    pub handed_to_it : (c w : ℕ) (z : PlaceId) (o : PlaceOut D)
+        → Holds rest ready kinds d i t k f me x → IsHoare kinds.conditions kinds.mesa c
+        → IsWaiting c i.front.events w → HandedTo ready c w i
+        → z ≡ t → o ≡ place_out z k (with_event f (SignalTo k c w x.state))
+        → Departs rest ready kinds d i.place (with_event i.front (SignalTo i.place c w i.state)) o
+    handed_to_it c w z o h hoare is_there asked same is =
+        let e = waiter_here c w h is_there in
+        asked_back (λ j. Departs rest ready kinds d j.place (with_event j.front (SignalTo j.place c w j.state)) o) h
+        (went_off (SignalTo k c w x.state) z o h (allowed_signal_to c w e.0 h hoare e.1)
+        (owes_signal_to c w e.0 h e.1 asked) (signalled f (SignalTo k c w x.state) refl refl refl) same is)
+
+    pub next_signal_to : (c w : ℕ) (b : Contents) (who : Next) (z : PlaceId) (o : PlaceOut D)
+        → Holds rest ready kinds d i t k f me x → IsWaiting c i.front.events w
+        → IsOf b (after_signal_to (dataless f) k c w (wait_by w c (dataless f).events)) → who ≡ next_of b.turn
+        → o ≡ place_out z k (with_event f (SignalTo k c w x.state))
+        → who ≡ next_of (turn o.front.events)
+    next_signal_to c w b who z o h is_there book answered is =
+        let e = waiter_here c w h is_there in
+        next_after (SignalTo k c w x.state) b who z o h (IsOf-signal_to b f k c w e.0 x.state e.1 book) answered is
 
     pub left : (z : PlaceId) (o : PlaceOut D) → Holds rest ready kinds d i t k f me x
         → rest i.state (priorities i.front.events) → z ≡ t

@@ -38,7 +38,8 @@ use Rattle.door_frame.specs.declared.view.Token.{Token}
 use Rattle.door_frame.specs.declared.view.SeatView.{SeatView}
 use Rattle.door_frame.specs.declared.view.SeatView.TheVariants.{Unopened, Opening, Places}
 use Rattle.door_frame.specs.Rule.{Tokens, Cells, Agrees, Lies, OpenInvariant, TableInvariant, raw, lent, runs}
-use Rattle.door_frame.specs.Steps.{SeatState, due, due_by, begins, opens, gives_as, Gives, notes_as, Notes}
+use Rattle.door_frame.proofs.Arrivals.{not_awaited}
+use Rattle.door_frame.specs.Steps.{SeatState, due, due_by, due_from, begins, opens, gives_as, Gives, notes_as, Notes}
 use Rattle.door_frame.specs.Steps.{EntryStepWith, Known}
 use Rattle.door_frame.specs.Steps.{Learns, learns}
 use Rattle.door_frame.specs.Views.{knows, sole, alone, all_know, Each, EachOf, Without, Apart, ApartOf, knowing}
@@ -164,12 +165,13 @@ module _ {D : Type 0} (rest : Rest D) (ready : Ready D) where
             inside = turn-push h.events (Resume k c s);
           })
       by_turn (returning is) = let last = own-returning h.events k is in let s : D = latest_data h in
-          subst (λ (o : Option (Event D)). Enters k h (due_by k o s)) (sym last.3) (record {
+          subst (λ (o : Option (Event D)). Enters k h (due_by k o s)) (sym last.1)
+          (subst (λ (c : Option ℕ). Enters k h (due_from k c s)) (sym (not_awaited last.0 last.2)) (record {
             allowed = record { in_range = (return-in_range h k stands.legal is, tt); fits = (is, refl) };
             owes = tt;
             mine = refl;
             inside = turn-push h.events (Back k s);
-          })
+          }))
 
 module _ {D : Type 0} (Initial : Bool → List ℕ → Type 0) (WordsFit : History D → Tokens → List ℕ
     → Type 0) (rest : Rest D)

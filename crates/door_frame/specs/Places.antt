@@ -3,16 +3,17 @@ use Rattle.std.specs.Prelude.{◌≡◌, ◌⊎◌, ◌<◌, ℕ, zero, suc, tru
 use Rattle.std.specs.Prelude.{Option}
 use Rattle.std.specs.Prelude.{Some, ⊤}
 use Rattle.atomic_table.specs.Seated.{TableId}
+use Rattle.hoare_law.specs.declared.event.Event.{Event}
 use Rattle.hoare_law.specs.declared.event.History.{History}
 use Rattle.hoare_law.specs.Sizes.{IsHoare, IsMesa, Kinds, sizes_at}
 use Rattle.hoare_law.specs.declared.event.Event.TheVariants.{Admit, Wait, Signal, Resume, Back}
 use Rattle.hoare_law.specs.declared.turn.Turn.TheVariants.{Held}
-use Rattle.hoare_law.specs.Events.{own, latest_data, with_event}
-use Rattle.hoare_law.specs.Turns.{turn, outside}
+use Rattle.hoare_law.specs.Events.{own, place_of, latest_data, with_event}
+use Rattle.hoare_law.specs.Turns.{is_signal, turn, outside}
 use Rattle.hoare_law.specs.Growth.{Begins, AddsLast, AddsTwo}
 use Rattle.hoare_law.specs.Lawful.{Rest, Ready, Stands}
-use Rattle.hoare_law.specs.Priorities.{priorities, taken}
-use Rattle.hoare_law.specs.Waiting.{Chooses}
+use Rattle.hoare_law.specs.Priorities.{priorities, taken, left_by}
+use Rattle.hoare_law.specs.Waiting.{Chooses, priority_of, wait_by}
 use Rattle.wait_book.specs.declared.steps.Next.{Next}
 use Rattle.wait_book.specs.declared.steps.Next.TheVariants.{For}
 
@@ -73,6 +74,12 @@ module _ {D : Type 0} where
   abbrev pub Handed : Ready D → ℕ → PlaceIn D → Type 0
   Handed ready c i = ready c (slice_index (priorities i.front.events c) 0) i.state (taken (priorities i.front.events) c)
 
+  -- ready holds for w, if w waits on c, of the data of the place inside and of the lists without that waiter
+  abbrev pub HandedTo : Ready D → ℕ → ℕ → PlaceIn D → Type 0
+  HandedTo ready c w i =
+      (x : Event D) → wait_by w c i.front.events ≡ Some x
+      → ready c (priority_of x) i.state (left_by (priorities i.front.events) c (priority_of x))
+
   -- the places k, .., k + n - 1 of the door, with one front
   abbrev pub places_from : DoorId → ℕ → ℕ → History D → List (PlaceOut D)
   places_from d k zero f = []
@@ -94,10 +101,10 @@ module _ {D : Type 0} where
     pub is_chosen : Chooses c i.front.events goes_on
     pub front : g ≡ with_event i.front (Signal i.place c goes_on i.state)
 
-  -- the last event of the place k, by which it released the monitor and is away: a wait or a signal
+  -- the last event of the place k, by which it released the monitor and is away: a wait, or a signal e
   pub data Released (k : ℕ) (g : History D) : Type 0 where
     waits : (f : History D) (c p : ℕ) (s : D) → g ≡ with_event f (Wait k c p s) → Released k g
-    signalled : (f : History D) (c w : ℕ) (s : D) → g ≡ with_event f (Signal k c w s) → Released k g
+    signalled : (f : History D) (e : Event D) → is_signal e ≡ true → place_of e ≡ k → g ≡ with_event f e → Released k g
 
   module _ (rest : Rest D) (ready : Ready D) (kinds : Kinds) where
     -- the place outside is of the door: it parks where it is woken, and what it knows is legal and lawful, and has it
@@ -139,9 +146,9 @@ module _ {D : Type 0} where
       pub is_ready : IsHoare kinds.conditions kinds.mesa c → ready c p i.state (priorities i.front.events)
       pub rests : IsMesa kinds.conditions kinds.mesa c → rest i.state (priorities i.front.events)
 
-    -- the place k, whose front was f before it signalled c with the data s, is inside again as i
-    pub record IsReturned (k : ℕ) (f : History D) (c w : ℕ) (s : D) (i : PlaceIn D) : Type 0 where
-      pub front : AddsTwo f (Signal k c w s) (Back k i.state) i.front
+    -- the place k, whose front was f before its signal e, is inside again as i
+    pub record IsReturned (k : ℕ) (f : History D) (e : Event D) (i : PlaceIn D) : Type 0 where
+      pub front : AddsTwo f e (Back k i.state) i.front
       pub rests : rest i.state (priorities i.front.events)
 
     -- the place o, which was away, is inside again as i: it returned from its last event
@@ -150,8 +157,8 @@ module _ {D : Type 0} where
       pub place : i.place ≡ o.place
       pub resumed : (f : History D) (c p : ℕ) (s : D) → o.front ≡ with_event f (Wait o.place c p s)
           → IsResumed o.place f c p s i
-      pub returned : (f : History D) (c w : ℕ) (s : D) → o.front ≡ with_event f (Signal o.place c w s)
-          → IsReturned o.place f c w s i
+      pub returned : (f : History D) (e : Event D) → is_signal e ≡ true → place_of e ≡ o.place
+          → o.front ≡ with_event f e → IsReturned o.place f e i
 
     -- one legal and lawful history of all places of the door ends with these data
     pub record Closes (door : DoorId) (os : List (PlaceOut D)) (s : D) : Type 0 where

@@ -3,14 +3,15 @@ ghost use Rattle.std.specs.Prelude.{◌≡◌, ◌≢◌, ◌<◌, ◌↔◌, �
 ghost use Rattle.hoare_law.specs.declared.event.History.{History};
 ghost use Rattle.hoare_law.specs.declared.event.Event.TheVariants as event;
 ghost use Rattle.hoare_law.specs.Events.{with_event};
-ghost use Rattle.hoare_law.specs.Growth.{AddsLast, AddsTwo, Broadcasts, Exits, Notifies, Signals};
+ghost use Rattle.hoare_law.specs.Growth.{AddsLast, AddsTwo, Broadcasts, Exits, Notifies, Signals, SignalsTo};
+ghost use Rattle.hoare_law.specs.Waiting.{IsWaiting};
 ghost use Rattle.hoare_law.specs.Sizes.{IsHoare, IsMesa};
 ghost use Rattle.hoare_law.specs.Priorities.{emptied, joined, priorities, taken};
 ghost use Rattle.hoare_law.specs.declared.turn.Turn.TheVariants as turns;
 ghost use Rattle.hoare_law.specs.Turns.{turn};
 ghost use Rattle.wait_book.specs.Contents.{IsOf, next_of, priorities_on};
 ghost use Rattle.door_frame.specs.Notifications.{IsCounted, Noted, after_notification, called_on};
-ghost use Rattle.door_frame.specs.Places.{IsOut, IsIn, IsAway, IsBack, Handed, HandsTo, place_id, place_in};
+ghost use Rattle.door_frame.specs.Places.{IsOut, IsIn, IsAway, IsBack, Handed, HandedTo, HandsTo, place_id, place_in};
 ghost use Rattle.door_frame.specs.Steps.{EnteredBy, due};
 
 use crate::guarded::GuardedBox;
@@ -187,6 +188,49 @@ pub fn begin_signal<D: MonitorData, T: RawMonitor<D>, S: Parking>(
     Ok((Away::of_parts(seat, place, sleeper), next))
 }
 
+/// Does the first half of a signal to the place `waiter`. If that place waits on `condition`, hands the monitor off to
+/// it, whoever else waits: the signalling place is then away, and returns by `try_return`; the result also shows which
+/// place resumes next. If the door doesn't wake its places, the caller wakes that place. If `waiter` doesn't wait
+/// there, returns `inside` unchanged.
+#[inline]
+pub fn begin_signal_to<D: MonitorData, T: RawMonitor<D>, S: Parking>(
+    door: &T,
+    inside: Inside<D, S>,
+    condition: usize,
+    waiter: usize,
+) -> Result<(Away<D, S>, Next), Inside<D, S>>
+    requires of { IsIn D.rest D.ready (T.kinds door.now) (T.id door.now) inside }
+    requires hoare { IsHoare (T.kinds door.now).conditions (T.kinds door.now).mesa condition }
+    requires ready { HandedTo D.ready condition waiter inside }
+    ensures of { IfOk result
+        (λ r. IsAway D.rest D.ready (T.kinds door.now) (T.id door.now) r.0) }
+    ensures place { IfOk result (λ r. r.0.place ≡ inside.place) }
+    ensures some { IfOk result (λ r. IsWaiting condition inside.front.events waiter) }
+    ensures front { IfOk result (λ r. r.0.front
+        ≡ with_event inside.front (event.SignalTo inside.place condition waiter inside.state)) }
+    ensures next { IfOk result (λ r. r.1 ≡ next_of (turn r.0.front.events)) }
+    ensures no_waiter { IfErr result (λ i. IsWaiting condition inside.front.events waiter → ⊥) }
+    ensures same { IfErr result (λ i. i ≡ inside) }
+{
+    if !inside.has_waiter(condition, waiter) {
+        return Err(inside);
+    }
+    let (mut seat, place, sleeper, mut guarded) = inside.into_parts();
+    let next = guarded
+        .held
+        .contents
+        .book
+        .signal_to(place, condition, waiter);
+    door.release(
+        &mut seat,
+        guarded,
+        place,
+        Release::SignalTo(condition, waiter),
+        next,
+    );
+    Ok((Away::of_parts(seat, place, sleeper), next))
+}
+
 /// Does the second half of `Monitor::wait` and of `Monitor::signal` if the monitor is owed to the place at this moment:
 /// the place is inside again. Else returns the place unchanged. Never blocks.
 #[inline]
@@ -263,6 +307,33 @@ pub fn signal<D: MonitorData, T: Wakes<D>, R: Wait>(
         inside.front result.0.front result.1 }
 {
     match begin_signal(door, inside, condition) {
+        Ok((away, _)) => (come_back(door, rt, away), true),
+        Err(inside) => (inside, false),
+    }
+}
+
+/// Signals to the place `waiter` on `condition`, at a door that wakes its places: if that place waits there, whoever
+/// else waits, it resumes, and this call returns once the monitor is given up after that. Returns true if so. If
+/// `waiter` doesn't wait there, changes nothing and returns false.
+pub fn signal_to<D: MonitorData, T: Wakes<D>, R: Wait>(
+    door: &T,
+    rt: &R,
+    inside: Inside<D>,
+    condition: usize,
+    waiter: usize,
+) -> (Inside<D>, bool)
+    requires of { IsIn D.rest D.ready (T.kinds door.now) (T.id door.now) inside }
+    requires hoare { IsHoare (T.kinds door.now).conditions (T.kinds door.now).mesa condition }
+    requires ready { HandedTo D.ready condition waiter inside }
+    ensures of { IsIn D.rest D.ready (T.kinds door.now) (T.id door.now) result.0 }
+    ensures place { result.0.place ≡ inside.place }
+    ensures answer { IsTrue result.1 ↔ IsWaiting condition inside.front.events waiter }
+    ensures rest { result.1 ≡ true → D.rest result.0.state (priorities result.0.front.events) }
+    ensures same { result.1 ≡ false → result.0 ≡ inside }
+    ensures front { SignalsTo inside.place condition waiter inside.state result.0.state
+        inside.front result.0.front result.1 }
+{
+    match begin_signal_to(door, inside, condition, waiter) {
         Ok((away, _)) => (come_back(door, rt, away), true),
         Err(inside) => (inside, false),
     }

@@ -150,7 +150,7 @@ impl<D, S: Parking> Inside<D, S> {
     ghost use Rattle.std.specs.Option.{option_map};
     ghost use Rattle.hoare_law.specs.declared.event.History.{History};
     ghost use Rattle.hoare_law.specs.Priorities.{priorities};
-    ghost use Rattle.hoare_law.specs.Waiting.{waiting, chosen, priority_of};
+    ghost use Rattle.hoare_law.specs.Waiting.{waiting, chosen, priority_of, IsWaiting};
     ghost use Rattle.wait_book.specs.Contents.{priorities_on};
     ghost use Rattle.door_frame.specs.Places.{place_id, place_in};
     ghost use Rattle.door_frame.specs.Seats.{IsInside};
@@ -206,6 +206,14 @@ impl<D, S: Parking> Inside<D, S> {
         ensures front { IsTrue result ↔ (waiting condition self.now.front.events ≢ []) }
     {
         self.guarded.book().queue(condition)
+    }
+
+    /// Returns true if `place` waits on `condition`.
+    pub fn has_waiter(&self, condition: usize, place: usize) -> bool
+        requires { condition < self.now.front.sizes.conditions }
+        ensures { IsTrue result ↔ IsWaiting condition self.now.front.events place }
+    {
+        self.guarded.book().has_waiter(condition, place)
     }
 
     /// Implements `Monitor::first`.

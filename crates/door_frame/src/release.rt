@@ -7,6 +7,8 @@ pub enum Release {
     Wait(usize, u64),
     /// Signals this condition, on which a place waits, and returns later.
     Signal(usize),
+    /// Signals this condition, to this place, which waits there, and returns later.
+    SignalTo(usize, usize),
     /// Signals this condition, on which a place waits, and leaves.
     Pass(usize),
     /// Leaves, and signals no condition.

@@ -19,7 +19,7 @@ use Rattle.hoare_law.specs.Priorities.{put_in}
 use Rattle.hoare_law.specs.Turns.{turn}
 use Rattle.hoare_law.specs.Legal.{IsLegal}
 use Rattle.hoare_law.specs.Growth.{AddsTwo}
-use Rattle.hoare_law.specs.Overtaking.{takes_from, taken_from, waits_below, waiters_up_to}
+use Rattle.hoare_law.specs.Overtaking.{takes_from, taken_from, waits_below, waiters_up_to, signals_on, signals_to}
 use Rattle.hoare_law.proofs.Tests.{list_all-filter}
 use Rattle.hoare_law.proofs.Events.{newest-push}
 use Rattle.hoare_law.proofs.Filters.{HasLast, nothing, pushed, has_last, filter-none, list_all-weaker}
@@ -27,10 +27,10 @@ use Rattle.hoare_law.proofs.Filters.{list_all-filter_own}
 use Rattle.hoare_law.proofs.Waiting.{waiting-push}
 use Rattle.hoare_law.proofs.Sorted.{Rising, Rising-in_order, in_order-filter, length-in_order}
 use Rattle.hoare_law.proofs.Priorities.{in_turn, in_turn-wait}
-use Rattle.hoare_law.proofs.Held.{handing, EndsHanding, waits_on-handing}
+use Rattle.hoare_law.proofs.Held.{Hand, by_pass, by_signal, by_signal_to, handing, EndsHanding, waits_on-handing}
 use Rattle.hoare_law.proofs.Waiters.{chosen-waits}
 use Rattle.hoare_law.proofs.Owed.{turn-handed}
-use Rattle.hoare_law.proofs.Fronts.{IsHanded, owed-handed}
+use Rattle.hoare_law.proofs.Fronts.{ByRule, IsHanded, owed-handed}
 use Rattle.hoare_law.proofs.Signallers.{own_other, legal_upto}
 use Rattle.hoare_law.proofs.PassedOver.{one_if, comes_below, passed, passed_chosen}
 use Rattle.hoare_law.proofs.Resuming.{no_elements, chosen_among}
@@ -162,16 +162,32 @@ module _ {S : Type 0} where
             ∙ length-in_order priority_of (filter (λ v. leb (priority_of v) p) (waiting c f)),
       )
 
-  handing_takes : (out : Bool) (j c k : ℕ) (u : S) → takes_from c (handing out j c k u) ≡ (c == c)
-  handing_takes true j c k u = refl
-  handing_takes false j c k u = refl
+  -- unless the monitor was handed off by a signal to a place, the chosen waiter was taken
+  handing_takes : (out : Hand) (g : List (Event S)) (j c k : ℕ) (u : S) (x : Event S) → ByRule out c g x
+      → signals_on c (handing out j c k u) ≡ false
+      → (takes_from c (handing out j c k u) ≡ true) × (chosen c g ≡ Some x)
+  handing_takes by_pass g j c k u x rule named = (eq-eqb c c refl, rule)
+  handing_takes by_signal g j c k u x rule named = (eq-eqb c c refl, rule)
+  handing_takes by_signal_to g j c k u x rule named = absurd (true≢false (sym (eq-eqb c c refl) ∙ named))
+
+  none_named : (c : ℕ) (earlier : List (Event S)) (e : Event S) → signals_to c (earlier ++ e ∷ []) ≡ 0
+      → (signals_to c earlier ≡ 0) × (signals_on c e ≡ false)
+  unfolding signals_to
+  none_named c earlier e none =
+      let sum = counted_push (signals_on c) earlier e in
+      (omega (arith, none, sum), by (signals_on c e) (omega (arith, none, sum)))
+    where
+      by : (b : Bool) → one_if b ≡ 0 → b ≡ false
+      by false zero = refl
+      by true zero = absurd (omega (arith, zero))
 
   -- between a wait and its end the waiters before it were taken, and those that began to wait later with a lesser
   -- priority, and then the waiter itself
   pub wait_ended : (f h : History S) (k c p : ℕ) (s t : S) → IsLegal h
       → IsHoare h.sizes.conditions h.sizes.mesa c → AddsTwo f (Wait k c p s) (Resume k c t) h
       → (later : List (Event S)) × (h.events ≡ f.events ++ Wait k c p s ∷ (later ++ Resume k c t ∷ []))
-      × (own k later ≡ []) × (taken_from c later ≡ waiters_up_to c p f.events + waits_below c p later + 1)
+      × (own k later ≡ [])
+      × (signals_to c later ≡ 0 → taken_from c later ≡ waiters_up_to c p f.events + waits_below c p later + 1)
   wait_ended f h k c p s t legal hoare adds = by (has_last b.later)
     where
       own_wait : Event S
@@ -203,8 +219,9 @@ module _ {S : Type 0} where
 
       ended : (earlier : List (Event S)) (e : Event S) → b.later ≡ earlier ++ e ∷ []
           → (f.events ++ own_wait ∷ earlier) ++ e ∷ [] ≡ l.before ++ hand ∷ []
+          → signals_to c b.later ≡ 0
           → taken_from c b.later ≡ waiters_up_to c p f.events + waits_below c p b.later + 1
-      ended earlier e ends both =
+      ended earlier e ends both unnamed =
           let lasts : Some e ≡ Some hand =
           sym (newest-push (f.events ++ own_wait ∷ earlier) e) ∙ ap newest both ∙ newest-push l.before hand in
           let one : e ≡ hand = cc in
@@ -218,7 +235,10 @@ module _ {S : Type 0} where
           (let sum = sym (length-append (own k earlier) (own k (e ∷ []))) ∙ ap length
           (sym (filter-append (λ x. place_of x == k) earlier (e ∷ [])) ∙ ap (own k) (sym ends) ∙ b.alone) in
           omega (arith, sum)) in
-          let waits = chosen-waits c l.before r.0 r.1.chose in
+          let quiet_named = none_named c earlier e (ap (signals_to c) (sym ends) ∙ unnamed) in
+          let rule = handing_takes l.out l.before l.by c k l.left r.0 r.1.by_rule
+          (ap (signals_on c) (sym one) ∙ quiet_named.1) in
+          let waits = chosen-waits c l.before r.0 rule.1 in
           let place : place_of r.0 ≡ k = ap place_of r.1.is in
           let own_is : own k l.before ≡ own k f.events ++ own_wait ∷ [] =
           ap (own k) (sym same) ∙ filter-append (λ x. place_of x == k) f.events (own_wait ∷ earlier)
@@ -229,18 +249,18 @@ module _ {S : Type 0} where
           ∙ newest-push (own k f.events) own_wait in
           let it : r.0 ≡ own_wait = cc in
           let chose : chosen c ((f.events ++ own_wait ∷ []) ++ earlier) ≡ Some own_wait =
-          ap (chosen c) whole ∙ r.1.chose ∙ ap (λ x. Some x) it in
+          ap (chosen c) whole ∙ rule.1 ∙ ap (λ x. Some x) it in
           let stood = stands_at f.events k c p s held in
           let untouched : is_untouched c own_wait earlier ≡ true =
           untouched_until c own_wait (f.events ++ own_wait ∷ []) earlier own_wait quiet chose refl in
           let counted = passed c (cut_to g l.before) (f.events ++ own_wait ∷ []) earlier stood.0 own_wait stood.1
           (legal_upto g l.before (hand ∷ []) l.ends fits) (sym whole) stood.2 untouched in
           let all = (passed_chosen c ((f.events ++ own_wait ∷ []) ++ earlier) stood.0 own_wait (taken_from c earlier)
-          (waits_below c p earlier) counted).0 chose in
+          (waits_below c p earlier) (signals_to c earlier) counted quiet_named.0).0 chose in
           let took : taken_from c b.later ≡ taken_from c earlier + 1 =
           ap (taken_from c) ends ∙ taken-push c earlier e
           ∙ ap (λ x. taken_from c earlier + one_if (takes_from c x)) one
-          ∙ ap (λ q. taken_from c earlier + one_if q) (handing_takes l.out l.by c k l.left ∙ eq-eqb c c refl) in
+          ∙ ap (λ q. taken_from c earlier + one_if q) rule.0 in
           let put : waits_below c p b.later ≡ waits_below c p earlier + 0 =
           ap (waits_below c p) ends ∙ waits_below-push c p earlier e
           ∙ ap (λ x. waits_below c p earlier + one_if (comes_below c p x)) one
@@ -250,7 +270,8 @@ module _ {S : Type 0} where
 
       by : HasLast b.later
           → (later : List (Event S)) × (h.events ≡ f.events ++ Wait k c p s ∷ (later ++ Resume k c t ∷ []))
-          × (own k later ≡ []) × (taken_from c later ≡ waiters_up_to c p f.events + waits_below c p later + 1)
+          × (own k later ≡ [])
+          × (signals_to c later ≡ 0 → taken_from c later ≡ waiters_up_to c p f.events + waits_below c p later + 1)
       by (nothing none) =
           let ends : Some own_wait ≡ Some hand =
           sym (newest-push f.events own_wait) ∙ ap (λ m. newest (f.events ++ own_wait ∷ m)) (sym none)

@@ -5,7 +5,7 @@ use Rattle.std.proofs.Common.{◌∙◌, subst}
 use Rattle.std.proofs.Common.{true≢false}
 use Rattle.hoare_law.specs.declared.event.Event.{Event}
 use Rattle.hoare_law.specs.declared.event.History.{History}
-use Rattle.hoare_law.specs.declared.event.Event.TheVariants.{Wait, Signal}
+use Rattle.hoare_law.specs.declared.event.Event.TheVariants.{Wait}
 use Rattle.hoare_law.specs.declared.turn.Turn.{Turn}
 use Rattle.hoare_law.specs.declared.turn.Turn.TheVariants.{Free, Held, Owed, Return}
 use Rattle.hoare_law.specs.Events.{place_of, own, newest, latest_data}
@@ -37,7 +37,7 @@ module _ {S : Type 0} where
 
   pub outside-returning : (h : List (Event S)) (k : ℕ) → turn h ≡ Return k → outside k h ≡ false
   outside-returning h k is =
-      let last = own-returning h k is in not_outside h k (Signal k last.0 last.1 last.2) last.3 refl
+      let last = own-returning h k is in not_outside h k last.0 last.1 last.3
 
   -- the turn is free, or that of a place that isn't outside
   pub turn-outside : (h : History S) → IsLegal h

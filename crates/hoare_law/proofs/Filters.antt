@@ -1,6 +1,7 @@
 -- Filters, what they keep, and the last element of a list.
-use Rattle.std.proofs.Common.{◌≡◌, ◌&&◌, ◌||◌, not, List, [], ◌∷◌, ◌++◌, map, Bool, true, false, cond, Some, refl, ap}
-use Rattle.std.proofs.Common.{sym, ◌∙◌, subst}
+use Rattle.std.proofs.Common.{◌≡◌, ◌≤◌, ◌&&◌, ◌||◌, not, suc, length, arith, List, [], ◌∷◌, ◌++◌, map, Bool, true}
+use Rattle.std.proofs.Common.{false, cond, Some, None, refl}
+use Rattle.std.proofs.Common.{ap, sym, ◌∙◌, subst}
 use Rattle.std.specs.Prelude.{All}
 use Rattle.std.specs.List.{filter, list_all, find}
 use Rattle.std.proofs.lemmas.Bool.{not-true}
@@ -162,6 +163,16 @@ find-passes p (y ∷ xs) x is = by (p y) refl is (find-passes p xs x)
     by true e f rest = let same : y ≡ x = cc in ap p (sym same) ∙ e
     by false e f rest = rest f
 
+-- if none is found, the test fails of all
+pub find-none : {X : Type 0} (p : X → Bool) (xs : List X) → find p xs ≡ None → All (λ x. p x ≡ false) xs
+find-none p [] none = All-nil (λ x. p x ≡ false)
+find-none p (x ∷ xs) none = by (p x) refl none (find-none p xs)
+  where
+    by : (t : Bool) → p x ≡ t → cond t (Some x) (find p xs) ≡ None → (find p xs ≡ None → All (λ y. p y ≡ false) xs)
+        → All (λ y. p y ≡ false) (x ∷ xs)
+    by true is f rest = absurd (cc)
+    by false is f rest = All-cons (λ y. p y ≡ false) x xs is (rest f)
+
 -- what holds of all elements holds of the element found
 pub All-find : {X : Type 0} (P : X → Type 0) (p : X → Bool) (xs : List X) (x : X) → find p xs ≡ Some x → All P xs → P x
 All-find P p [] x is all = absurd (cc)
@@ -183,3 +194,26 @@ All-filter_by_later P test (x ∷ xs) holds =
         → All P (cond t (x ∷ filter_by_later test xs) (filter_by_later test xs))
     by true is all = All-cons P x (filter_by_later test xs) (holds [] x xs refl is) all
     by false is all = all
+
+-- if one element alone passes a test, the list is parted by it, and the others fail the test
+pub parted_at : {X : Type 0} (p : X → Bool) (xs : List X) (x : X) → find p xs ≡ Some x → length (filter p xs) ≤ 1
+    → (us vs : List X) × (xs ≡ us ++ x ∷ vs) × (filter (λ y. not (p y)) xs ≡ us ++ vs)
+parted_at p [] x is once = absurd (cc)
+parted_at {X = X} p (y ∷ ys) x is once = by (p y) refl is once (parted_at p ys x)
+  where
+    none : (zs : List X) → suc (length zs) ≤ 1 → zs ≡ []
+    none [] few = refl
+    none (z ∷ zs) few = absurd (omega (arith, few))
+
+    by : (t : Bool) → p y ≡ t → cond t (Some y) (find p ys) ≡ Some x
+        → length (cond t (y ∷ filter p ys) (filter p ys)) ≤ 1
+        → (find p ys ≡ Some x → length (filter p ys) ≤ 1
+        → (us vs : List X) × (ys ≡ us ++ x ∷ vs) × (filter (λ z. not (p z)) ys ≡ us ++ vs))
+        → (us vs : List X) × (y ∷ ys ≡ us ++ x ∷ vs) × (filter (λ z. not (p z)) (y ∷ ys) ≡ us ++ vs)
+    by true passes found few rest =
+        let same : y ≡ x = cc in
+        let others : list_all (λ z. not (p z)) ys ≡ true = list_all-filter_none p ys (none (filter p ys) few) in
+        ([], ys, ap (λ z. z ∷ ys) same, rw passes (filter-all (λ z. not (p z)) ys others))
+    by false fails found few rest =
+        let r = rest found few in
+        (y ∷ r.0, r.1, ap (λ l. y ∷ l) r.2, rw fails (ap (λ l. y ∷ l) r.3))

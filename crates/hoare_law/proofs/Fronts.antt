@@ -1,5 +1,5 @@
 -- What a front, or whose turn it is, says of a legal and lawful history.
-use Rattle.std.proofs.Common.{◌≡◌, ◌≢◌, ◌==◌, ⊎_elim, ℕ, List, [], ◌∷◌, ◌++◌, length, Bool, true, false, cond}
+use Rattle.std.proofs.Common.{◌≡◌, ◌≢◌, ◌==◌, ⊎_elim, ℕ, List, [], ◌∷◌, ◌++◌, length, true, false, cond}
 use Rattle.std.proofs.Common.{Option, Some, None, refl, ap, sym, ◌∙◌, subst, arith, eq-eqb, eqb-true, ne_eqb}
 use Rattle.std.proofs.Common.{true≢false, length-append}
 use Rattle.std.specs.Prelude.{IsSomeAnd}
@@ -10,13 +10,13 @@ use Rattle.std.proofs.lemmas.List.Elements.{filter-append}
 use Rattle.hoare_law.specs.declared.event.Event.{Event}
 use Rattle.hoare_law.specs.declared.event.History.{History}
 use Rattle.hoare_law.specs.declared.event.Event.TheVariants.{Admit, Wait, Signal, Pass, Leave, Resume, Back, Notify}
-use Rattle.hoare_law.specs.declared.event.Event.TheVariants.{Broadcast}
+use Rattle.hoare_law.specs.declared.event.Event.TheVariants.{Broadcast, SignalTo}
 use Rattle.hoare_law.specs.declared.turn.Turn.{Turn}
 use Rattle.hoare_law.specs.declared.turn.Turn.TheVariants.{Free, Held, Owed, Return}
 use Rattle.hoare_law.specs.Events.{place_of, data_of, own, newest, latest_data, cut_to}
 use Rattle.hoare_law.specs.Sizes.{IsHoare, IsMesa}
-use Rattle.hoare_law.specs.Waiting.{priority_of, waiting, chosen, Chooses}
-use Rattle.hoare_law.specs.Turns.{After, stays, frees, hands, after, is_signal, turn}
+use Rattle.hoare_law.specs.Waiting.{priority_of, waiting, chosen, Chooses, wait_by}
+use Rattle.hoare_law.specs.Turns.{After, stays, frees, hands, after, is_signal, turn, is_out}
 use Rattle.hoare_law.specs.Priorities.{priorities}
 use Rattle.hoare_law.specs.Legal.{Allowed, IsLegal}
 use Rattle.hoare_law.specs.Lawful.{Rest, Ready, OwesAfter, Owes, IsLawful, Stands}
@@ -24,10 +24,11 @@ use Rattle.hoare_law.specs.Growth.{Begins}
 use Rattle.hoare_law.proofs.Events.{newest-push, own-push}
 use Rattle.hoare_law.proofs.Filters.{newest-some, list_all-at, list_all-filter_own}
 use Rattle.hoare_law.proofs.Held.{is_inside, EndsHanding, EndsCalled, IsOwed, handed, next_called, handing}
+use Rattle.hoare_law.proofs.Held.{Hand, by_pass, by_signal, by_signal_to, MayBeHanded}
 use Rattle.hoare_law.proofs.Held.{place_of-handing, data_of-handing, is_free, gives_up, waits_on-is, turn-owed}
 use Rattle.hoare_law.proofs.Held.{turn-return, turn-free, own-held, held_one}
-use Rattle.hoare_law.proofs.Waiters.{Waits, LastSignals, chosen-waits, own-return}
-use Rattle.hoare_law.proofs.Priorities.{Chooses-chosen}
+use Rattle.hoare_law.proofs.Waiters.{Waits, LastSignals, own-return}
+use Rattle.hoare_law.proofs.Priorities.{Chooses-chosen, wait_by-waits, wait_by-chosen, waiting-wait_by}
 use Rattle.hoare_law.proofs.Owed.{IsCalled, first-called, turn-handed, turn-called}
 
 none_added : {X : Type 0} (xs ys : List X) → xs ++ ys ≡ xs → ys ≡ []
@@ -53,6 +54,7 @@ module _ {S : Type 0} where
   place_of-held h k (Wait j c p s) is a = held_one h.events j k a.fits is
   place_of-held h k (Leave j s) is a = held_one h.events j k a.fits is
   place_of-held h k (Signal j c w s) is a = held_one h.events j k a.fits.0 is
+  place_of-held h k (SignalTo j c w s) is a = held_one h.events j k a.fits.0 is
   place_of-held h k (Pass j c w s) is a = held_one h.events j k a.fits.0 is
   place_of-held h k (Notify j c w s) is a = held_one h.events j k a.fits.0 is
   place_of-held h k (Broadcast j c s) is a = held_one h.events j k a.fits.0 is
@@ -83,29 +85,50 @@ module _ {S : Type 0} where
           let none : e ∷ own k more ≡ [] = sym kept ∙ one_more e more at placed in
           absurd (cc)
 
+  -- unless it was a signal to a place, x is the chosen waiter on c
+  abbrev pub ByRule : Hand → ℕ → List (Event S) → Event S → Type 0
+  ByRule by_signal_to c h x = Unit {0}
+  ByRule _ c h x = chosen c h ≡ Some x
+
   -- the last event handed off the monitor to k, which waited on c with x
   pub record IsHanded (h : List (Event S)) (k c : ℕ) (x : Event S) : Type 0 where
     pub hand : EndsHanding k c h
-    pub chose : chosen c hand.before ≡ Some x
+    pub waited : wait_by k c hand.before ≡ Some x
+    pub by_rule : ByRule hand.out c hand.before x
     pub is : x ≡ Wait k c (priority_of x) (data_of x)
     pub last : newest (own k h) ≡ Some x
 
-  handing_fits : (out : Bool) (f : History S) (k c w : ℕ) (s : S) → Allowed f (handing out k c w s)
-      → (turn f.events ≡ Held k) × Chooses c f.events w
-  handing_fits true f k c w s a = (a.fits.0, a.fits.1)
-  handing_fits false f k c w s a = (a.fits.0, a.fits.1)
+  handing_fits : (out : Hand) (f : History S) (k c w : ℕ) (s : S) → Allowed f (handing out k c w s)
+      → (turn f.events ≡ Held k) × MayBeHanded out c f.events w
+  handing_fits by_pass f k c w s a = (a.fits.0, a.fits.1)
+  handing_fits by_signal f k c w s a = (a.fits.0, a.fits.1)
+  handing_fits by_signal_to f k c w s a = (a.fits.0, a.fits.1)
 
-  -- the process to which the monitor was handed off was chosen: its own last event is its wait
+  by_choice : (c w : ℕ) (h : List (Event S)) → Chooses c h w
+      → (x : Event S) × (wait_by w c h ≡ Some x) × (place_of x ≡ w) × (chosen c h ≡ Some x)
+  by_choice c w h chooses =
+      let r = Chooses-chosen c w h chooses in
+      (r.0, ap (λ k. wait_by k c h) (sym r.2) ∙ wait_by-chosen c h r.0 r.1, r.2, r.1)
+
+  -- the wait of the place to which the monitor may be handed off
+  handed_wait : (out : Hand) (c w : ℕ) (h : List (Event S)) → MayBeHanded out c h w
+      → (x : Event S) × (wait_by w c h ≡ Some x) × (place_of x ≡ w) × ByRule out c h x
+  handed_wait by_pass c w h may = by_choice c w h may
+  handed_wait by_signal c w h may = by_choice c w h may
+  handed_wait by_signal_to c w h may = let r = waiting-wait_by c w h may in (r.0, r.1, r.2, tt)
+
+  -- the process to which the monitor was handed off waited: its own last event is its wait
   pub owed-handed : (h : History S) (k c : ℕ) → IsLegal h → EndsHanding k c h.events
       → (x : Event S) × IsHanded h.events k c x
   owed-handed h k c legal r =
       let j : ℕ = r.by in
       let g : List (Event S) = r.before in
       let hand : Event S = handing r.out j c k r.left in
-      let fits : (turn g ≡ Held j) × Chooses c g k =
+      let fits : (turn g ≡ Held j) × MayBeHanded r.out c g k =
       handing_fits r.out (cut_to h g) j c k r.left (legal.each g [] hand r.ends) in
-      let x : (x : Event S) × (chosen c g ≡ Some x) × (place_of x ≡ k) = Chooses-chosen c k g fits.1 in
-      let waits : Waits c g x.0 = chosen-waits c g x.0 x.1 in
+      let x : (x : Event S) × (wait_by k c g ≡ Some x) × (place_of x ≡ k) × ByRule r.out c g x =
+      handed_wait r.out c k g fits.1 in
+      let waits : Waits c g x.0 = (wait_by-waits c k g x.0 x.1).0 in
       let last : newest (own k g) ≡ Some x.0 = ap (λ i. newest (own i g)) (sym x.2) ∙ waits.last in
       let came : (e : Event S) × (newest (own j g) ≡ Some e) × (is_inside e ≡ true) = own-held g j fits.0 in
       let other : j ≢ k = λ same.
@@ -119,7 +142,8 @@ module _ {S : Type 0} where
         x.0,
         record {
           hand = r;
-          chose = x.1;
+          waited = x.1;
+          by_rule = x.3;
           is = waits_on-is c x.0 waits.on ∙ ap (λ i. Wait i c (priority_of x.0) (data_of x.0)) x.2;
           last = ap newest kept ∙ last;
         },
@@ -130,12 +154,13 @@ module _ {S : Type 0} where
   unfolding latest_data
   latest_data-ends h g e is = ap (λ o. unwrap_or (option_map data_of o) h.opening) (ap newest is ∙ newest-push g e)
 
-  handing_owed : (rest : Rest S) (ready : Ready S) (out : Bool) (g : List (Event S)) (k c w : ℕ) (s : S) (x : Event S)
-      → chosen c g ≡ Some x
+  handing_owed : (rest : Rest S) (ready : Ready S) (out : Hand) (g : List (Event S)) (k c w : ℕ) (s : S) (x : Event S)
+      → wait_by w c g ≡ Some x
       → Owes rest ready g (handing out k c w s) → ready c (priority_of x) s (priorities (g ++ handing out k c w s ∷ []))
   unfolding Owes
-  handing_owed rest ready true g k c w s x is owes = some_at _ (chosen c g) x is owes
-  handing_owed rest ready false g k c w s x is owes = some_at _ (chosen c g) x is owes
+  handing_owed rest ready by_pass g k c w s x is owes = some_at _ (wait_by w c g) x is owes
+  handing_owed rest ready by_signal g k c w s x is owes = some_at _ (wait_by w c g) x is owes
+  handing_owed rest ready by_signal_to g k c w s x is owes = some_at _ (wait_by w c g) x is owes
 
   give_up_owes : (rest : Rest S) (ready : Ready S) (g : List (Event S)) (e : Event S) → gives_up e ≡ true
       → Owes rest ready g e → rest (data_of e) (priorities (g ++ e ∷ []))
@@ -167,7 +192,7 @@ module _ {S : Type 0} where
         let l = r.1.hand in
         let hand : Event S = handing l.out l.by c k l.left in
         let found : ready c (priority_of r.0) l.left (priorities (l.before ++ hand ∷ [])) =
-        handing_owed rest ready l.out l.before l.by c k l.left r.0 r.1.chose
+        handing_owed rest ready l.out l.before l.by c k l.left r.0 r.1.waited
         (stands.lawful.each l.before [] hand l.ends) in
         let kept : latest_data h ≡ l.left =
         latest_data-ends h l.before hand l.ends ∙ data_of-handing l.out l.by c k l.left in
@@ -225,21 +250,19 @@ module _ {S : Type 0} where
       (list_all-at (λ y. place_of y == k) r.0 x [] (ap (list_all (λ y. place_of y == k)) (sym r.1)
       ∙ list_all-filter_own (λ y. place_of y == k) h))
 
-  signal_is : (x : Event S) → is_signal x ≡ true → (c w : ℕ) × (s : S) × (x ≡ Signal (place_of x) c w s)
-  signal_is (Signal k c w s) is = (c, w, s, refl)
-  signal_is (Admit k s) is = absurd (cc)
-  signal_is (Wait k c p s) is = absurd (cc)
-  signal_is (Pass k c w s) is = absurd (cc)
-  signal_is (Leave k s) is = absurd (cc)
-  signal_is (Resume k c s) is = absurd (cc)
-  signal_is (Back k s) is = absurd (cc)
-  signal_is (Notify k c w s) is = absurd (cc)
-  signal_is (Broadcast k c s) is = absurd (cc)
+  signal_stays : (x : Event S) → is_signal x ≡ true → is_out (Some x) ≡ false
+  signal_stays (Signal k c w s) is = refl
+  signal_stays (SignalTo k c w s) is = refl
+  signal_stays (Admit k s) is = absurd (cc)
+  signal_stays (Wait k c p s) is = absurd (cc)
+  signal_stays (Pass k c w s) is = absurd (cc)
+  signal_stays (Leave k s) is = absurd (cc)
+  signal_stays (Resume k c s) is = absurd (cc)
+  signal_stays (Back k s) is = absurd (cc)
+  signal_stays (Notify k c w s) is = absurd (cc)
+  signal_stays (Broadcast k c s) is = absurd (cc)
 
-  -- the last event of a place that returns is its signal
+  -- the last event of a place that returns is a signal of its own
   pub own-returning : (h : List (Event S)) (k : ℕ) → turn h ≡ Return k
-      → (c w : ℕ) × (s : S) × (newest (own k h) ≡ Some (Signal k c w s))
-  own-returning h k is =
-      let r : LastSignals h k = own-return h k is in
-      let p : (c w : ℕ) × (s : S) × (r.0 ≡ Signal (place_of r.0) c w s) = signal_is r.0 r.2 in
-      (p.0, p.1, p.2, r.1 ∙ ap (λ x. Some x) (p.3 ∙ ap (λ i. Signal i p.0 p.1 p.2) (place_of-own h k r.0 r.1)))
+      → (e : Event S) × (newest (own k h) ≡ Some e) × (is_signal e ≡ true) × (is_out (Some e) ≡ false)
+  own-returning h k is = let r : LastSignals h k = own-return h k is in (r.0, r.1, r.2, signal_stays r.0 r.2)

@@ -5,11 +5,11 @@ use Rattle.std.specs.List.{filter, list_all}
 use Rattle.std.proofs.lemmas.List.{append-nil}
 use Rattle.hoare_law.specs.declared.event.Event.{Event}
 use Rattle.hoare_law.specs.declared.event.Event.TheVariants.{Admit, Wait, Signal, Pass, Leave, Resume, Back, Notify}
-use Rattle.hoare_law.specs.declared.event.Event.TheVariants.{Broadcast}
+use Rattle.hoare_law.specs.declared.event.Event.TheVariants.{Broadcast, SignalTo}
 use Rattle.hoare_law.specs.declared.turn.Turn.{Turn}
 use Rattle.hoare_law.specs.declared.turn.Turn.TheVariants.{Free, Held, Owed, Return}
 use Rattle.hoare_law.specs.Events.{place_of, data_of, own, newest}
-use Rattle.hoare_law.specs.Waiting.{priority_of, condition_of, waits_on, takes, concerns, waiting}
+use Rattle.hoare_law.specs.Waiting.{priority_of, condition_of, waits_on, takes, concerns, waiting, Chooses, IsWaiting}
 use Rattle.hoare_law.specs.Called.{called}
 use Rattle.hoare_law.specs.Turns.{After, stays, frees, hands, after, urgent, turn, turn_of, turn_by, turn_given_up}
 use Rattle.hoare_law.specs.Turns.{is_out, outside}
@@ -27,10 +27,28 @@ is_stay _ = false
 abbrev pub is_inside : {S : Type 0} → Event S → Bool
 is_inside e = is_stay (after e)
 
--- k hands off the monitor to w, which waits on c: by a pass if `out` is true, else by a signal
-abbrev pub handing : {S : Type 0} → Bool → ℕ → ℕ → ℕ → S → Event S
-handing true k c w s = Pass k c w s
-handing false k c w s = Signal k c w s
+-- how a place hands off the monitor to a waiter
+pub data Hand : Type 0 where
+  by_pass : Hand
+  by_signal : Hand
+  by_signal_to : Hand
+
+-- a pass if the flag is true, else a signal
+abbrev pub hand_of : Bool → Hand
+hand_of true = by_pass
+hand_of false = by_signal
+
+-- k hands off the monitor to w, which waits on c
+abbrev pub handing : {S : Type 0} → Hand → ℕ → ℕ → ℕ → S → Event S
+handing by_pass k c w s = Pass k c w s
+handing by_signal k c w s = Signal k c w s
+handing by_signal_to k c w s = SignalTo k c w s
+
+-- w may be the one to which the monitor is handed off from c
+abbrev pub MayBeHanded : {S : Type 0} → Hand → ℕ → List (Event S) → ℕ → Type 0
+MayBeHanded by_pass c h w = Chooses c h w
+MayBeHanded by_signal c h w = Chooses c h w
+MayBeHanded by_signal_to c h w = IsWaiting c h w
 
 abbrev pub is_free : After → Bool
 is_free frees = true
@@ -80,11 +98,12 @@ concerns-own e c k none = ap (λ b. place_of e == k || b) none ∙ or_false (pla
     or_false true = refl
     or_false false = refl
 
--- an event that hands off the monitor is a signal or a pass
+-- an event that hands off the monitor is a pass or a signal
 pub handing_is : {S : Type 0} (e : Event S) (w c : ℕ) → after e ≡ hands w c
-    → (out : Bool) × (k : ℕ) × (s : S) × (e ≡ handing out k c w s)
-handing_is (Signal k d v s) w c is = (false, k, s, cc)
-handing_is (Pass k d v s) w c is = (true, k, s, cc)
+    → (out : Hand) × (k : ℕ) × (s : S) × (e ≡ handing out k c w s)
+handing_is (Signal k d v s) w c is = (by_signal, k, s, cc)
+handing_is (Pass k d v s) w c is = (by_pass, k, s, cc)
+handing_is (SignalTo k d v s) w c is = (by_signal_to, k, s, cc)
 handing_is (Admit k s) w c is = absurd (cc)
 handing_is (Resume k d s) w c is = absurd (cc)
 handing_is (Back k s) w c is = absurd (cc)
@@ -100,6 +119,7 @@ waits_on-is c (Wait k d p s) on = ap (λ i. Wait k i p s) (eqb-true d c on)
 waits_on-is c (Admit k s) on = absurd (cc)
 waits_on-is c (Signal k d w s) on = absurd (cc)
 waits_on-is c (Pass k d w s) on = absurd (cc)
+waits_on-is c (SignalTo k d w s) on = absurd (cc)
 waits_on-is c (Leave k s) on = absurd (cc)
 waits_on-is c (Resume k d s) on = absurd (cc)
 waits_on-is c (Back k s) on = absurd (cc)
@@ -143,7 +163,7 @@ module _ {S : Type 0} where
 
   -- the last event handed off the monitor to w, which waited on c
   pub record EndsHanding (w c : ℕ) (h : List (Event S)) : Type 0 where
-    pub out : Bool
+    pub out : Hand
     pub by : ℕ
     pub left : S
     pub before : List (Event S)
@@ -189,7 +209,7 @@ module _ {S : Type 0} where
     where
       by_hand : after e ≡ hands w c → IsOwed w c h
       by_hand hand =
-          let r : (out : Bool) × (k : ℕ) × (s : S) × (e ≡ handing out k c w s) = handing_is e w c hand in
+          let r : (out : Hand) × (k : ℕ) × (s : S) × (e ≡ handing out k c w s) = handing_is e w c hand in
           handed (record { out = r.0; by = r.1; left = r.2; before = g; ends = is ∙ ap (λ x. g ++ x ∷ []) r.3 })
 
       by : (a : After) → after e ≡ a → turn_of a (place_of e) (urgent h) (called h) ≡ Owed w c → IsOwed w c h
@@ -257,22 +277,26 @@ module _ {S : Type 0} where
       by (pushed g e ends) = (free_by g e h ends is).2
 
   -- k is the place that hands off the monitor, and s are the data that it leaves
-  pub place_of-handing : (out : Bool) (k c w : ℕ) (s : S) → place_of (handing out k c w s) ≡ k
-  place_of-handing true k c w s = refl
-  place_of-handing false k c w s = refl
+  pub place_of-handing : (out : Hand) (k c w : ℕ) (s : S) → place_of (handing out k c w s) ≡ k
+  place_of-handing by_pass k c w s = refl
+  place_of-handing by_signal k c w s = refl
+  place_of-handing by_signal_to k c w s = refl
 
-  pub data_of-handing : (out : Bool) (k c w : ℕ) (s : S) → data_of (handing out k c w s) ≡ s
-  data_of-handing true k c w s = refl
-  data_of-handing false k c w s = refl
+  pub data_of-handing : (out : Hand) (k c w : ℕ) (s : S) → data_of (handing out k c w s) ≡ s
+  data_of-handing by_pass k c w s = refl
+  data_of-handing by_signal k c w s = refl
+  data_of-handing by_signal_to k c w s = refl
 
   -- such an event is no wait, and concerns k and w
-  pub waits_on-handing : (out : Bool) (d k c w : ℕ) (s : S) → waits_on d (handing out k c w s) ≡ false
-  waits_on-handing true d k c w s = refl
-  waits_on-handing false d k c w s = refl
+  pub waits_on-handing : (out : Hand) (d k c w : ℕ) (s : S) → waits_on d (handing out k c w s) ≡ false
+  waits_on-handing by_pass d k c w s = refl
+  waits_on-handing by_signal d k c w s = refl
+  waits_on-handing by_signal_to d k c w s = refl
 
-  pub concerns-handing : (out : Bool) (d j k c w : ℕ) (s : S) → concerns d j (handing out k c w s) ≡ (k == j || w == j)
-  concerns-handing true d j k c w s = refl
-  concerns-handing false d j k c w s = refl
+  pub concerns-handing : (out : Hand) (d j k c w : ℕ) (s : S) → concerns d j (handing out k c w s) ≡ (k == j || w == j)
+  concerns-handing by_pass d j k c w s = refl
+  concerns-handing by_signal d j k c w s = refl
+  concerns-handing by_signal_to d j k c w s = refl
 
   -- an event that is no wait is no wait on a condition
   pub waits_not : (Is : Event S → Type 0) (e : Event S) (c : ℕ) → ((k d p : ℕ) (s : S) → Is (Wait k d p s) → ⊥) → Is e
@@ -293,6 +317,7 @@ module _ {S : Type 0} where
   in_not_out (Back j s) is = refl
   in_not_out (Wait j d p s) is = refl
   in_not_out (Signal j d v s) is = refl
+  in_not_out (SignalTo j d v s) is = refl
   in_not_out (Notify j d v s) is = refl
   in_not_out (Broadcast j d s) is = refl
   in_not_out (Pass j d v s) is = absurd (cc)

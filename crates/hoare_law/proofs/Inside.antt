@@ -5,7 +5,7 @@ use Rattle.std.proofs.Common.{append_assoc}
 use Rattle.std.proofs.lemmas.List.{append-nil}
 use Rattle.hoare_law.specs.declared.event.Event.{Event}
 use Rattle.hoare_law.specs.declared.event.Event.TheVariants.{Admit, Wait, Signal, Pass, Leave, Resume, Back, Notify}
-use Rattle.hoare_law.specs.declared.event.Event.TheVariants.{Broadcast}
+use Rattle.hoare_law.specs.declared.event.Event.TheVariants.{Broadcast, SignalTo}
 use Rattle.hoare_law.specs.declared.event.History.{History}
 use Rattle.hoare_law.specs.declared.turn.Turn.TheVariants.{Held}
 use Rattle.hoare_law.specs.Called.{called}
@@ -44,6 +44,7 @@ module _ {S : Type 0} where
   turn_by_in (Broadcast k c s) us ws is = refl
   turn_by_in (Wait k c p s) us ws is = absurd (cc)
   turn_by_in (Signal k c w s) us ws is = absurd (cc)
+  turn_by_in (SignalTo k c w s) us ws is = absurd (cc)
   turn_by_in (Pass k c w s) us ws is = absurd (cc)
   turn_by_in (Leave k s) us ws is = absurd (cc)
 
@@ -55,6 +56,7 @@ module _ {S : Type 0} where
   is_in-stays (Broadcast k c s) is = refl
   is_in-stays (Wait k c p s) is = absurd (cc)
   is_in-stays (Signal k c w s) is = absurd (cc)
+  is_in-stays (SignalTo k c w s) is = absurd (cc)
   is_in-stays (Pass k c w s) is = absurd (cc)
   is_in-stays (Leave k s) is = absurd (cc)
 

@@ -10,7 +10,7 @@ use Rattle.std.proofs.lemmas.List.Folds.{list_all-append}
 use Rattle.hoare_law.specs.declared.event.Event.{Event}
 use Rattle.hoare_law.specs.declared.event.History.{History}
 use Rattle.hoare_law.specs.declared.event.Event.TheVariants.{Admit, Wait, Signal, Pass, Leave, Resume, Back, Notify}
-use Rattle.hoare_law.specs.declared.event.Event.TheVariants.{Broadcast}
+use Rattle.hoare_law.specs.declared.event.Event.TheVariants.{Broadcast, SignalTo}
 use Rattle.hoare_law.specs.declared.turn.Turn.TheVariants.{Held, Owed}
 use Rattle.hoare_law.specs.Events.{place_of, own, newest, with_event, cut_to}
 use Rattle.hoare_law.specs.Sizes.{IsHoare, IsMesa}
@@ -25,6 +25,7 @@ use Rattle.hoare_law.proofs.Waiting.{waiting-push}
 use Rattle.hoare_law.proofs.Called.{called-push}
 use Rattle.hoare_law.proofs.Sorted.{All-in_order}
 use Rattle.hoare_law.proofs.Held.{EndsHanding, EndsCalled, IsOwed, handed, next_called, handing, waits_on-handing}
+use Rattle.hoare_law.proofs.Held.{Hand, by_pass, by_signal, by_signal_to}
 use Rattle.hoare_law.proofs.Held.{concerns-handing, turn-owed, waiting-held}
 use Rattle.hoare_law.proofs.Waiters.{Waits, All-waiting, condition-waits_on, waiting-in_range, waiting-elsewhere}
 use Rattle.hoare_law.proofs.Waiters.{in_range-at, handing_in_range}
@@ -187,6 +188,7 @@ module _ {S : Type 0} where
   All-called_by f (Admit k s) legal may = All-nil (IsCalled (with_event f (Admit k s)))
   All-called_by f (Wait k c p s) legal may = All-nil (IsCalled (with_event f (Wait k c p s)))
   All-called_by f (Signal k c w s) legal may = All-nil (IsCalled (with_event f (Signal k c w s)))
+  All-called_by f (SignalTo k c w s) legal may = All-nil (IsCalled (with_event f (SignalTo k c w s)))
   All-called_by f (Pass k c w s) legal may = All-nil (IsCalled (with_event f (Pass k c w s)))
   All-called_by f (Leave k s) legal may = All-nil (IsCalled (with_event f (Leave k s)))
   All-called_by f (Resume k c s) legal may = All-nil (IsCalled (with_event f (Resume k c s)))
@@ -238,10 +240,11 @@ module _ {S : Type 0} where
   called-mesa h w c legal r =
       subst (λ (d : ℕ). IsMesa h.sizes.conditions h.sizes.mesa d) r.on (first-called h w c legal r).mesa
 
-  handing_hoare : (out : Bool) (f : History S) (k c w : ℕ) (s : S) → Allowed f (handing out k c w s)
+  handing_hoare : (out : Hand) (f : History S) (k c w : ℕ) (s : S) → Allowed f (handing out k c w s)
       → IsHoare f.sizes.conditions f.sizes.mesa c
-  handing_hoare true f k c w s may = may.fits.2
-  handing_hoare false f k c w s may = may.fits.2
+  handing_hoare by_pass f k c w s may = may.fits.2
+  handing_hoare by_signal f k c w s may = may.fits.2
+  handing_hoare by_signal_to f k c w s may = may.fits.2
 
   -- the condition of a process that was resumed is one of Hoare's
   pub handed-hoare : (h : History S) (w c : ℕ) → IsLegal h → EndsHanding w c h.events

@@ -2,30 +2,35 @@
 use Rattle.std.proofs.Common.{◌≡◌, ◌==◌, ◌&&◌, ◌||◌, ◌+◌, not, ℕ, suc, List, [], ◌∷◌, ◌++◌, length, Bool}
 use Rattle.std.proofs.Common.{true, false, cond, leb, ltb, Some, refl, ap, sym, ◌∙◌, subst, arith, eq-eqb, eqb-true}
 use Rattle.std.proofs.Common.{true≢false}
-use Rattle.std.proofs.Common.{append_assoc}
+use Rattle.std.proofs.Common.{◌≤◌, append_assoc, length-append}
 use Rattle.std.specs.Prelude.{◌↔◌}
 use Rattle.std.specs.List.{filter, list_all}
 use Rattle.std.proofs.lemmas.Bool.{not-true}
 use Rattle.std.proofs.lemmas.Bool.Decides.{nat_tests}
 use Rattle.std.proofs.lemmas.List.{append-nil}
+use Rattle.std.proofs.lemmas.List.Elements.{filter-append}
 use Rattle.hoare_law.specs.declared.event.Event.{Event}
 use Rattle.hoare_law.specs.declared.event.History.{History}
 use Rattle.hoare_law.specs.declared.event.Event.TheVariants.{Admit, Wait, Signal, Pass, Leave, Resume, Back, Notify}
-use Rattle.hoare_law.specs.declared.event.Event.TheVariants.{Broadcast}
+use Rattle.hoare_law.specs.declared.event.Event.TheVariants.{Broadcast, SignalTo}
 use Rattle.hoare_law.specs.declared.turn.Turn.TheVariants.{Held}
 use Rattle.hoare_law.specs.Events.{place_of, cut_to}
 use Rattle.hoare_law.specs.Waiting.{priority_of, waits_on, takes, concerns, is_untouched, waiting, chosen, Chooses}
+use Rattle.hoare_law.specs.Waiting.{IsWaiting}
 use Rattle.hoare_law.specs.Priorities.{put_in, in_order, behind_first}
 use Rattle.hoare_law.specs.Turns.{turn}
 use Rattle.hoare_law.specs.Legal.{Allowed, IsLegal}
-use Rattle.hoare_law.specs.Overtaking.{takes_from, taken_from, waits_below}
+use Rattle.hoare_law.specs.Overtaking.{takes_from, taken_from, waits_below, signals_on, signals_to}
 use Rattle.hoare_law.proofs.Tests.{both_true, eq_swap}
 use Rattle.hoare_law.proofs.Filters.{list_all-at}
-use Rattle.hoare_law.proofs.Sorted.{Rising, Rising-in_order, first_of}
+use Rattle.hoare_law.proofs.Sorted.{Rising, Rising-in_order, first_of, in_order-filter, length-in_order}
 use Rattle.hoare_law.proofs.Chosen.{chosen-first}
 use Rattle.hoare_law.proofs.Held.{concerns-own}
 use Rattle.hoare_law.proofs.Owed.{waiting-owed}
-use Rattle.hoare_law.proofs.Priorities.{in_turn, in_turn-wait, in_turn-takes, apart_behind, Chooses-chosen}
+use Rattle.hoare_law.proofs.Priorities.{in_turn, in_turn-wait, in_turn-takes, in_turn-leaves, in_turn-elsewhere}
+use Rattle.hoare_law.proofs.Priorities.{apart_behind, Chooses-chosen}
+use Rattle.hoare_law.proofs.Priorities.{waiting-wait_by}
+use Rattle.hoare_law.proofs.Waiters.{waiting-once}
 use Rattle.hoare_law.proofs.Priorities.{waiting-own, waiting-outside, waiting-return, waiting-broadcast}
 use Rattle.hoare_law.proofs.Held.{waiting-held}
 use Rattle.hoare_law.proofs.Signallers.{legal_upto}
@@ -59,19 +64,35 @@ module _ {X : Type 0} (key : X → ℕ) where
       let r = put_behind w x us vs kept rises.1 in
       (r.0, rw low (ap (λ l. u ∷ l) r.1))
 
+-- those that pass a test and those that fail it are all
+length-parted : {X : Type 0} (p : X → Bool) (xs : List X)
+    → length (filter p xs) + length (filter (λ x. not (p x)) xs) ≡ length xs
+length-parted p [] = refl
+length-parted p (x ∷ xs) = by (p x) (length-parted p xs)
+  where
+    by : (t : Bool) → length (filter p xs) + length (filter (λ y. not (p y)) xs) ≡ length xs
+        → length (cond t (x ∷ filter p xs) (filter p xs))
+        + length (cond (not t) (x ∷ filter (λ y. not (p y)) xs) (filter (λ y. not (p y)) xs)) ≡ suc (length xs)
+    by true rest = omega (arith, rest)
+    by false rest = omega (arith, rest)
+
 module _ {S : Type 0} where
-  -- what comes before x afterwards, and what was counted meanwhile
-  pub record Passed (c : ℕ) (h : List (Event S)) (us : List (Event S)) (x : Event S) (took put : ℕ) : Type 0 where
+  -- what comes before x afterwards, and what was counted meanwhile: of the `named`, to which signals were given, `gone`
+  -- came before x
+  pub record Passed (c : ℕ) (h : List (Event S)) (us : List (Event S)) (x : Event S) (took put named : ℕ) : Type 0 where
     pub before : List (Event S)
     pub behind : List (Event S)
     pub now : in_turn h c ≡ before ++ x ∷ behind
-    pub counts : length before + took ≡ length us + put
+    pub gone : ℕ
+    pub few : gone ≤ named
+    pub counts : length before + took + gone ≡ length us + put
 
   abbrev pub comes_below : ℕ → ℕ → Event S → Bool
   comes_below c p e = waits_on c e && ltb (priority_of e) p
 
   abbrev PassedBy : ℕ → List (Event S) → Event S → List (Event S) → Event S → Type 0
   PassedBy c f e us x = Passed c (f ++ e ∷ []) us x (one_if (takes_from c e)) (one_if (comes_below c (priority_of x) e))
+      (one_if (signals_on c e))
 
   -- an event that leaves the order as it is
   passed_same : (c : ℕ) (f : List (Event S)) (e : Event S) (us : List (Event S)) (x : Event S) (vs : List (Event S))
@@ -82,7 +103,14 @@ module _ {S : Type 0} where
       let none : one_if (takes_from c e) ≡ 0 = ap one_if untaken in
       let nothing_put : one_if (comes_below c (priority_of x) e) ≡ 0 =
       ap (λ b. one_if (b && ltb (priority_of e) (priority_of x))) unput in
-      record { before = us; behind = vs; now = same ∙ is; counts = omega (arith, none, nothing_put) }
+      record {
+        before = us;
+        behind = vs;
+        now = same ∙ is;
+        gone = 0;
+        few = omega arith;
+        counts = omega (arith, none, nothing_put);
+      }
 
   -- a wait on c is put in before x or after x
   passed_wait : (c : ℕ) (f : List (Event S)) (j d p : ℕ) (s : S) (us : List (Event S)) (x : Event S)
@@ -106,15 +134,36 @@ module _ {S : Type 0} where
       by false other u less =
           let nothing_put : one_if (comes_below c (priority_of x) put) ≡ 0 =
           ap (λ b. one_if (b && ltb p (priority_of x))) other in
-          record { before = us; behind = vs; now = joined_by false other; counts = omega (arith, nothing_put) }
+          record {
+            before = us;
+            behind = vs;
+            now = joined_by false other;
+            gone = 0;
+            few = omega arith;
+            counts = omega (arith, nothing_put);
+          }
       by true same true less =
           let r = put_before priority_of put x us vs less in
           let one : one_if (comes_below c (priority_of x) put) ≡ 1 = rw (same, less) refl in
-          record { before = r.0; behind = vs; now = joined_by true same ∙ r.1; counts = omega (arith, one, r.2) }
+          record {
+            before = r.0;
+            behind = vs;
+            now = joined_by true same ∙ r.1;
+            gone = 0;
+            few = omega arith;
+            counts = omega (arith, one, r.2);
+          }
       by true same false kept =
           let r = put_behind priority_of put x us vs kept rises in
           let none : one_if (comes_below c (priority_of x) put) ≡ 0 = rw (same, kept) refl in
-          record { before = us; behind = r.0; now = joined_by true same ∙ r.1; counts = omega (arith, none) }
+          record {
+            before = us;
+            behind = r.0;
+            now = joined_by true same ∙ r.1;
+            gone = 0;
+            few = omega arith;
+            counts = omega (arith, none);
+          }
 
   -- the first waiter in order is the chosen one
   chosen_first : (c : ℕ) (h : List (Event S)) (x : Event S) (xs : List (Event S)) → in_turn h c ≡ x ∷ xs
@@ -162,6 +211,8 @@ module _ {S : Type 0} where
             before = ts;
             behind = vs;
             now = taken_by true same ∙ ap behind_first at;
+            gone = 0;
+            few = omega arith;
             counts = omega (arith, took, unput ts);
           }
 
@@ -174,6 +225,66 @@ module _ {S : Type 0} where
       (ap (in_order priority_of)
       (waiting-own f e c (λ i. concerns-own e c i (alone i)) apart
       ∙ ap (λ b. waiting c f ++ cond b (e ∷ []) []) no_wait ∙ append-nil _)) untaken no_wait
+
+  -- a signal to w takes w, which isn't the place of x
+  passed_naming : (c : ℕ) (f : List (Event S)) (k d w : ℕ) (s : S) (us : List (Event S)) (x : Event S)
+      (vs : List (Event S)) → turn f ≡ Held k → IsWaiting d f w
+      → not (concerns c (place_of x) (SignalTo k d w s)) ≡ true
+      → in_turn f c ≡ us ++ x ∷ vs → PassedBy c f (SignalTo k d w s) us x
+  passed_naming c f k d w s us x vs held waits apart is = by (d == c) refl
+    where
+      test : Event S → Bool
+      test y = not (w == place_of y)
+
+      left : in_turn (f ++ SignalTo k d w s ∷ []) c ≡ filter test (in_turn f c)
+      left = in_turn-leaves f (SignalTo k d w s) k w c refl (λ j. refl) held
+
+      kept : (t : Bool) → (w == place_of x) ≡ t → (k == place_of x || t) ≡ false → t ≡ false
+      kept false at none = refl
+      kept true at none = absurd (true≢false (sym (either_true (k == place_of x)) ∙ none))
+        where
+          either_true : (a : Bool) → (a || true) ≡ true
+          either_true true = refl
+          either_true false = refl
+
+      passes : test x ≡ true
+      passes = ap not (kept (w == place_of x) refl (not-true _ apart))
+
+      parted : filter test (in_turn f c) ≡ filter test us ++ x ∷ filter test vs
+      parted = ap (filter test) is ∙ filter-append test us (x ∷ vs)
+          ∙ ap (λ b. filter test us ++ cond b (x ∷ filter test vs) (filter test vs)) passes
+
+      few_gone : length us ≤ length (filter test us) + 1
+      few_gone =
+          let sum = length-parted (λ y. w == place_of y) us in
+          let whole : length (filter (λ y. w == place_of y) (in_turn f c)) ≤ 1 =
+          subst (λ (n : ℕ). n ≤ 1)
+          (sym (length-in_order priority_of (filter (λ y. w == place_of y) (waiting c f)))
+          ∙ ap length (in_order-filter priority_of (λ y. w == place_of y) (waiting c f)))
+          (waiting-once c w f) in
+          let parts : length (filter (λ y. w == place_of y) (in_turn f c))
+          ≡ length (filter (λ y. w == place_of y) us) + length (filter (λ y. w == place_of y) (x ∷ vs)) =
+          ap (λ l. length (filter (λ y. w == place_of y) l)) is
+          ∙ ap length (filter-append (λ y. w == place_of y) us (x ∷ vs))
+          ∙ length-append (filter (λ y. w == place_of y) us) (filter (λ y. w == place_of y) (x ∷ vs)) in
+          omega (arith, sum, whole, parts)
+
+      by : (t : Bool) → (d == c) ≡ t → PassedBy c f (SignalTo k d w s) us x
+      by true same =
+          let named : one_if (signals_on c (SignalTo k d w s)) ≡ 1 = ap one_if same in
+          let sum = length-parted (λ y. w == place_of y) us in
+          record {
+            before = filter test us;
+            behind = filter test vs;
+            now = left ∙ parted;
+            gone = length (filter (λ y. w == place_of y) us);
+            few = omega (arith, named, few_gone, sum);
+            counts = omega (arith, sum);
+          }
+      by false other =
+          let r = waiting-wait_by d w f waits in
+          let same = in_turn-elsewhere d c w f r.0 (λ e. true≢false (sym (eq-eqb d c (sym e)) ∙ other)) r.1 in
+          passed_same c f (SignalTo k d w s) us x vs is (left ∙ same) refl refl
 
   passed_step : (c : ℕ) (f : History S) (e : Event S) (us : List (Event S)) (x : Event S) (vs : List (Event S))
       → IsLegal f → Allowed f e → not (concerns c (place_of x) e) ≡ true → in_turn f.events c ≡ us ++ x ∷ vs
@@ -190,6 +301,8 @@ module _ {S : Type 0} where
   passed_step c f (Signal k d w s) us x vs legal may apart is =
       passed_taking c f.events (Signal k d w s) k d w us x vs (λ b. refl) (λ b i. refl) refl may.fits.0 may.fits.1
       apart is
+  passed_step c f (SignalTo k d w s) us x vs legal may apart is =
+      passed_naming c f.events k d w s us x vs may.fits.0 may.fits.1 apart is
   passed_step c f (Pass k d w s) us x vs legal may apart is =
       passed_taking c f.events (Pass k d w s) k d w us x vs (λ b. refl) (λ b i. refl) refl may.fits.0 may.fits.1
       apart is
@@ -210,12 +323,15 @@ module _ {S : Type 0} where
   passed_none : (c : ℕ) (f : List (Event S)) (us : List (Event S)) (x : Event S) (vs : List (Event S))
       → in_turn f c ≡ us ++ x ∷ vs
       → Passed c (f ++ []) us x (taken_from {S = S} c []) (waits_below {S = S} c (priority_of x) [])
-  unfolding taken_from waits_below
+      (signals_to {S = S} c [])
+  unfolding taken_from waits_below signals_to
   passed_none c f us x vs is = record {
     before = us;
     behind = vs;
     now = ap (λ l. in_turn l c) (append-nil f) ∙ is;
-    counts = refl;
+    gone = 0;
+    few = omega arith;
+    counts = omega arith;
   }
 
   pub counted_more : (p : Event S → Bool) (e : Event S) (later : List (Event S))
@@ -236,12 +352,17 @@ module _ {S : Type 0} where
   unfolding waits_below
   waits_below_more c p e later = counted_more (comes_below c p) e later
 
+  signals_to_more : (c : ℕ) (e : Event S) (later : List (Event S))
+      → signals_to c (e ∷ later) ≡ one_if (signals_on c e) + signals_to c later
+  unfolding signals_to
+  signals_to_more c e later = counted_more (signals_on c) e later
+
   -- as many waiters come before x afterwards as before, without those taken, and with those that began to wait later
   -- with a lesser priority
   pub passed : (c : ℕ) (h : History S) (f later : List (Event S)) (us : List (Event S)) (x : Event S)
       (vs : List (Event S)) → IsLegal h → h.events ≡ f ++ later → in_turn f c ≡ us ++ x ∷ vs
       → is_untouched c x later ≡ true
-      → Passed c (f ++ later) us x (taken_from c later) (waits_below c (priority_of x) later)
+      → Passed c (f ++ later) us x (taken_from c later) (waits_below c (priority_of x) later) (signals_to c later)
   passed c h f [] us x vs legal at is apart = passed_none c f us x vs is
   passed c h f (e ∷ later) us x vs legal at is apart =
       let b : (not (concerns c (place_of x) e) ≡ true) × (is_untouched c x later ≡ true) = both_true _ _ apart in
@@ -255,6 +376,8 @@ module _ {S : Type 0} where
         before = t.before;
         behind = t.behind;
         now = ap (λ l. in_turn l c) (sym (append_assoc f (e ∷ []) later)) ∙ t.now;
+        gone = r.gone + t.gone;
+        few = omega (arith, signals_to_more c e later, r.few, t.few);
         counts = omega (arith, took, put, r.counts, t.counts);
       }
 
@@ -272,14 +395,15 @@ module _ {S : Type 0} where
       absurd (true≢false (sym (eq-eqb (place_of x) (place_of x) refl)
       ∙ not-true _ (list_all-at (λ y. not (place_of x == place_of y)) ts x vs others)))
 
-  -- a signal would resume x exactly when all waiters before it were taken, and all that began to wait later with a
-  -- lesser priority
-  pub passed_chosen : (c : ℕ) (h : List (Event S)) (us : List (Event S)) (x : Event S) (took put : ℕ)
-      → Passed c h us x took put → (chosen c h ≡ Some x) ↔ (took ≡ length us + put)
-  passed_chosen c h us x took put r = (
-    (λ is. let none = chosen_alone c h x r.before r.behind is r.now in omega (arith, none, r.counts)),
+  -- if none was named, a signal would resume x exactly when all waiters before it were taken, and all that began to
+  -- wait later with a lesser priority
+  pub passed_chosen : (c : ℕ) (h : List (Event S)) (us : List (Event S)) (x : Event S) (took put named : ℕ)
+      → Passed c h us x took put named → named ≡ 0 → (chosen c h ≡ Some x) ↔ (took ≡ length us + put)
+  passed_chosen c h us x took put named r none_named = (
+    (λ is. let none = chosen_alone c h x r.before r.behind is r.now in
+        omega (arith, none, none_named, r.few, r.counts)),
     (λ all. chosen_first c h x r.behind
-        (first_empty r.before x r.behind (in_turn h c) (omega (arith, all, r.counts)) r.now)),
+        (first_empty r.before x r.behind (in_turn h c) (omega (arith, all, none_named, r.few, r.counts)) r.now)),
   )
 
   -- no priority is less than 0

@@ -1,28 +1,34 @@
 -- The waiting priorities after one more event.
-use Rattle.std.proofs.Common.{◌≡◌, ◌==◌, ◌||◌, ◌≤◌, not, ℕ, suc, List, [], ◌∷◌, ◌++◌, length, map, Bool, true}
-use Rattle.std.proofs.Common.{false, cond, Option, Some, None, refl, ap, sym, ◌∙◌, subst, arith, eq-eqb, eqb-true}
+use Rattle.std.proofs.Common.{◌≡◌, ◌≢◌, ◌==◌, ◌||◌, ◌≤◌, not, ℕ, suc, List, [], ◌∷◌, ◌++◌, length, map, Bool, true}
+use Rattle.std.proofs.Common.{leb, false, cond, Option, Some, None, refl, ap, sym, ◌∙◌, subst, arith, eq-eqb, eqb-true}
 use Rattle.std.proofs.Common.{ne_eqb, true≢false}
 use Rattle.std.specs.Prelude.{IsSomeAnd, slice_index}
-use Rattle.std.specs.List.{filter, list_all}
+use Rattle.std.specs.List.{filter, list_all, find}
 use Rattle.std.specs.List.Sorted.{IsNonDecreasing}
+use Rattle.std.proofs.lemmas.Bool.Decides.{nat_tests}
 use Rattle.std.proofs.lemmas.List.{append-nil, length-map}
 use Rattle.std.proofs.lemmas.List.Elements.{All-weaker, filter_agree}
 use Rattle.hoare_law.specs.declared.event.Event.{Event}
 use Rattle.hoare_law.specs.declared.event.Event.TheVariants.{Wait, Leave, Notify}
-use Rattle.hoare_law.specs.declared.event.Event.TheVariants.{Broadcast}
+use Rattle.hoare_law.specs.declared.event.Event.TheVariants.{Broadcast, SignalTo}
 use Rattle.hoare_law.specs.declared.turn.Turn.TheVariants.{Held, Return}
 use Rattle.hoare_law.specs.Events.{place_of, own, newest}
-use Rattle.hoare_law.specs.Waiting.{waits_on, priority_of, concerns, waiting, chosen, Chooses}
+use Rattle.hoare_law.specs.Waiting.{waits_on, priority_of, concerns, is_least, waiting, chosen, Chooses, wait_by}
+use Rattle.hoare_law.specs.Waiting.{IsWaiting}
 use Rattle.hoare_law.specs.Turns.{is_signal, turn, is_out, outside}
 use Rattle.hoare_law.specs.Priorities.{put_in, in_order, priorities, joined, taken, emptied, behind_first}
-use Rattle.hoare_law.proofs.Tests.{eq_swap}
+use Rattle.hoare_law.specs.Priorities.{without_one, left_by}
+use Rattle.hoare_law.proofs.Tests.{both_true, eq_swap}
 use Rattle.hoare_law.proofs.Waiting.{waiting-push}
 use Rattle.hoare_law.proofs.Sorted.{first_of, put_all-push, in_order-filter, map-put_in, map-in_order, in_order-none}
-use Rattle.hoare_law.proofs.Sorted.{in_order-short, length-in_order, IsNonDecreasing-in_order}
+use Rattle.hoare_law.proofs.Sorted.{in_order-short, length-in_order, IsNonDecreasing-in_order, find-filter, Rising}
+use Rattle.hoare_law.proofs.Sorted.{Rising-in_order}
 use Rattle.hoare_law.proofs.Chosen.{chosen-first}
 use Rattle.hoare_law.proofs.Filters.{map-none, filter-all, filter-true, filter-false, filter-or, list_all-filter_none}
-use Rattle.hoare_law.proofs.Filters.{list_all-same, list_all-from_All}
-use Rattle.hoare_law.proofs.Held.{handing, waits_on-handing, concerns-handing, concerns-own, waits_not, waiting-held}
+use Rattle.hoare_law.proofs.Filters.{list_all-same, list_all-from_All, list_all-at, All-find, find-passes, find-none}
+use Rattle.hoare_law.proofs.Filters.{find-same, parted_at}
+use Rattle.hoare_law.proofs.Held.{Hand, handing, waits_on-handing, concerns-handing, concerns-own, waits_not}
+use Rattle.hoare_law.proofs.Held.{waiting-held}
 use Rattle.hoare_law.proofs.Waiters.{Waits, LastSignals, All-waiting, own-return, chosen-waits, waiting-elsewhere}
 use Rattle.hoare_law.proofs.Waiters.{waiting-once}
 
@@ -41,6 +47,36 @@ first_none (y ∷ xs) is = absurd (cc)
 no_length : {X : Type 0} (xs : List X) → length xs ≤ 0 → xs ≡ []
 no_length [] l = refl
 no_length (x ∷ xs) l = absurd (omega arith)
+
+module _ {X : Type 0} (key : X → ℕ) where
+  -- in a rising list all keys from one that is x's up to x are the same
+  same_keys : (us : List X) (x : X) (vs : List X) → list_all (λ v. leb (key x) (key v)) (us ++ x ∷ vs) ≡ true
+      → Rising key (us ++ x ∷ vs)
+      → map key (us ++ x ∷ vs) ≡ key x ∷ map key (us ++ vs)
+  same_keys [] x vs low rises = refl
+  same_keys (u ∷ us) x vs low rises =
+      let b = both_true _ _ low in
+      let up : leb (key u) (key x) ≡ true = list_all-at (λ v. leb (key u) (key v)) us x vs rises.0 in
+      let same : key u ≡ key x = le_antisym (key u) (key x) up b.0 in
+      ap (λ l. key u ∷ l) (same_keys us x vs b.1 rises.1) ∙ (λ i. same i ∷ sym same i ∷ map key (us ++ vs))
+    where
+      le_antisym : (m n : ℕ) → leb m n ≡ true → leb n m ≡ true → m ≡ n
+      le_antisym m n a b = grind (arith, nat_tests)
+
+  -- a rising list of keys without one key of x is the list of keys without x's own
+  without_one-at : (us : List X) (x : X) (vs : List X) → Rising key (us ++ x ∷ vs)
+      → without_one (key x) (map key (us ++ x ∷ vs)) ≡ map key (us ++ vs)
+  without_one-at [] x vs rises = rw (eq-eqb (key x) (key x) refl) refl
+  without_one-at (u ∷ us) x vs rises = by (key u == key x) refl (without_one-at us x vs rises.1)
+    where
+      by : (t : Bool) → (key u == key x) ≡ t → without_one (key x) (map key (us ++ x ∷ vs)) ≡ map key (us ++ vs)
+          → cond t (map key (us ++ x ∷ vs)) (key u ∷ without_one (key x) (map key (us ++ x ∷ vs)))
+          ≡ key u ∷ map key (us ++ vs)
+      by true is rest =
+          let same : key u ≡ key x = eqb-true (key u) (key x) is in
+          same_keys us x vs (ap (λ n. list_all (λ v. leb n (key v)) (us ++ x ∷ vs)) (sym same) ∙ rises.0) rises.1
+          ∙ ap (λ n. n ∷ map key (us ++ vs)) (sym same)
+      by false is rest = ap (λ l. key u ∷ l) rest
 
 module _ {S : Type 0} where
   -- the waiting priorities of a condition never decrease
@@ -190,6 +226,56 @@ module _ {S : Type 0} where
   unfolding Chooses
   Chooses-chosen c w h is = some_and (λ x. place_of x ≡ w) (chosen c h) is
 
+  -- the wait of w is a wait on c, and the last event of w
+  pub wait_by-waits : (c w : ℕ) (h : List (Event S)) (x : Event S) → wait_by w c h ≡ Some x
+      → Waits c h x × (place_of x ≡ w)
+  unfolding wait_by
+  wait_by-waits c w h x is = (
+    All-find (Waits c h) (λ e. place_of e == w) (waiting c h) x is (All-waiting c h),
+    eqb-true (place_of x) w (find-passes (λ e. place_of e == w) (waiting c h) x is),
+  )
+
+  wait_by-found : (c w : ℕ) (h : List (Event S)) (x : Event S) → wait_by w c h ≡ Some x
+      → find (λ e. place_of e == w) (waiting c h) ≡ Some x
+  unfolding wait_by
+  wait_by-found c w h x is = is
+
+  -- the place of that wait is waiting
+  pub IsWaiting-by : (c w : ℕ) (h : List (Event S)) (x : Event S) → wait_by w c h ≡ Some x → IsWaiting c h w
+  unfolding IsWaiting
+  IsWaiting-by c w h x is =
+      subst (λ (o : Option (Event S)). IsSomeAnd o (λ e. place_of e ≡ w)) (sym is) (wait_by-waits c w h x is).1
+
+  -- a place that waits on c has a wait there
+  pub waiting-wait_by : (c w : ℕ) (h : List (Event S)) → IsWaiting c h w
+      → (x : Event S) × (wait_by w c h ≡ Some x) × (place_of x ≡ w)
+  unfolding IsWaiting
+  waiting-wait_by c w h is = some_and (λ x. place_of x ≡ w) (wait_by w c h) is
+
+  -- two waits of one place are the same
+  one_wait : (c : ℕ) (h : List (Event S)) (x y : Event S) → Waits c h x → Waits c h y → place_of x ≡ place_of y → x ≡ y
+  one_wait c h x y a b same =
+      let both : Some x ≡ Some y = sym a.last ∙ ap (λ k. newest (own k h)) same ∙ b.last in cc
+
+  -- the wait of the chosen waiter is the wait of its place
+  pub wait_by-chosen : (c : ℕ) (h : List (Event S)) (x : Event S) → chosen c h ≡ Some x
+      → wait_by (place_of x) c h ≡ Some x
+  unfolding wait_by chosen
+  wait_by-chosen c h x is = by (find (λ e. place_of e == place_of x) (waiting c h)) refl
+    where
+      by : (o : Option (Event S)) → find (λ e. place_of e == place_of x) (waiting c h) ≡ o → o ≡ Some x
+      by (Some y) found = let r = wait_by-waits c (place_of x) h y found in
+          ap (λ z. Some z) (one_wait c h y x r.0 (chosen-waits c h x is) r.1)
+      by None none = absurd (true≢false (sym (eq-eqb (place_of x) (place_of x) refl)
+          ∙ All-find (λ y. (place_of y == place_of x) ≡ false) (is_least (waiting c h)) (waiting c h) x is
+          (find-none (λ e. place_of e == place_of x) (waiting c h) none)))
+
+  -- the chosen waiter waits
+  pub Chooses-waits : (c w : ℕ) (h : List (Event S)) → Chooses c h w → IsWaiting c h w
+  Chooses-waits c w h chooses =
+      let r = Chooses-chosen c w h chooses in
+      subst (IsWaiting c h) r.2 (IsWaiting-by c (place_of r.0) h r.0 (wait_by-chosen c h r.0 r.1))
+
   -- the waiters after the chosen one have other places
   pub apart_behind : (c : ℕ) (h : List (Event S)) (x : Event S) → chosen c h ≡ Some x
       → list_all (λ y. not (place_of x == place_of y)) (behind_first (in_turn h c)) ≡ true
@@ -253,6 +339,73 @@ module _ {S : Type 0} where
           (filter-all (λ y. not (place_of x == place_of y)) (waiting d h)
           (waiting-elsewhere c d h x (λ same. true≢false (sym (eq-eqb d c same) ∙ other)) (chosen-waits c h x some)))
 
+  -- an event that concerns k, which is inside, and w takes w from the waiters
+  pub in_turn-leaves : (h : List (Event S)) (e : Event S) (k w d : ℕ) → waits_on d e ≡ false
+      → ((j : ℕ) → concerns d j e ≡ (k == j || w == j)) → turn h ≡ Held k
+      → in_turn (h ++ e ∷ []) d ≡ filter (λ y. not (w == place_of y)) (in_turn h d)
+  in_turn-leaves h e k w d no_wait both is =
+      ap (in_order priority_of) (waiting-push d h e
+      ∙ ap (λ b. filter (λ x. not (concerns d (place_of x) e)) (waiting d h) ++ cond b (e ∷ []) []) no_wait
+      ∙ append-nil _
+      ∙ filter_agree (λ x. not (concerns d (place_of x) e)) (λ x. not (k == place_of x || w == place_of x))
+      (λ x. ap not (both (place_of x))) (waiting d h)
+      ∙ filter-or (λ x. k == place_of x) (λ x. w == place_of x) (waiting d h) (waiting-held h k d is))
+      ∙ in_order-filter priority_of (λ y. not (w == place_of y)) (waiting d h)
+
+  -- a place that waits on c waits on no other condition
+  pub in_turn-elsewhere : (c d w : ℕ) (h : List (Event S)) (x : Event S) → d ≢ c → wait_by w c h ≡ Some x
+      → filter (λ y. not (w == place_of y)) (in_turn h d) ≡ in_turn h d
+  in_turn-elsewhere c d w h x other is =
+      let r = wait_by-waits c w h x is in
+      sym (in_order-filter priority_of (λ y. not (w == place_of y)) (waiting d h))
+      ∙ ap (in_order priority_of) (filter-all (λ y. not (w == place_of y)) (waiting d h)
+      (ap (λ k. list_all (λ y. not (k == place_of y)) (waiting d h)) (sym r.1)
+      ∙ waiting-elsewhere c d h x other r.0))
+
+  -- the waiters in order, parted by the wait of w, which no other has
+  pub in_turn-parted : (c w : ℕ) (h : List (Event S)) (x : Event S) → wait_by w c h ≡ Some x
+      → (us vs : List (Event S)) × (in_turn h c ≡ us ++ x ∷ vs)
+      × (filter (λ y. not (w == place_of y)) (in_turn h c) ≡ us ++ vs)
+  in_turn-parted c w h x is =
+      let r = wait_by-waits c w h x is in
+      let test : Event S → Bool = λ y. w == place_of y in
+      let same : filter test (in_turn h c) ≡ filter test (waiting c h) =
+      sym (in_order-filter priority_of test (waiting c h)) ∙ in_order-short priority_of _ (waiting-once c w h) in
+      parted_at test (in_turn h c) x
+      (find-filter test (in_turn h c) ∙ ap first_of same ∙ sym (find-filter test (waiting c h))
+      ∙ find-same test (λ y. place_of y == w) (waiting c h) (λ y. eq_swap w (place_of y)) ∙ wait_by-found c w h x is)
+      (subst (λ (l : List (Event S)). length l ≤ 1) (sym same) (waiting-once c w h))
+
+  -- a signal to w takes one priority: that of its wait
+  priorities-signal_to_at : (h : List (Event S)) (k c w : ℕ) (x : Event S) (s : S) (d : ℕ) → turn h ≡ Held k
+      → wait_by w c h ≡ Some x
+      → priorities (h ++ SignalTo k c w s ∷ []) d ≡ left_by (priorities h) c (priority_of x) d
+  unfolding priorities
+  priorities-signal_to_at h k c w x s d held is =
+      ap (map priority_of) (in_turn-leaves h (SignalTo k c w s) k w d refl (λ j. refl) held) ∙ by (d == c) refl
+    where
+      by : (t : Bool) → (d == c) ≡ t
+          → map priority_of (filter (λ y. not (w == place_of y)) (in_turn h d))
+          ≡ cond t (without_one (priority_of x) (map priority_of (in_turn h d))) (map priority_of (in_turn h d))
+      by true same =
+          let r = in_turn-parted c w h x is in
+          let rises : Rising priority_of (r.0 ++ x ∷ r.1) =
+          subst (Rising priority_of) r.2 (Rising-in_order priority_of (waiting c h)) in
+          let here : map priority_of (filter (λ y. not (w == place_of y)) (in_turn h c))
+          ≡ without_one (priority_of x) (map priority_of (in_turn h c)) =
+          ap (map priority_of) r.3 ∙ sym (without_one-at priority_of r.0 x r.1 rises)
+          ∙ ap (λ l. without_one (priority_of x) (map priority_of l)) (sym r.2) in
+          subst (λ (b : ℕ). map priority_of (filter (λ y. not (w == place_of y)) (in_turn h b))
+          ≡ without_one (priority_of x) (map priority_of (in_turn h b))) (sym (eqb-true d c same)) here
+      by false other =
+          ap (map priority_of)
+          (in_turn-elsewhere c d w h x (λ same. true≢false (sym (eq-eqb d c same) ∙ other)) is)
+
+  pub priorities-signal_to : (h : List (Event S)) (k c w : ℕ) (x : Event S) (s : S) → turn h ≡ Held k
+      → wait_by w c h ≡ Some x
+      → priorities (h ++ SignalTo k c w s ∷ []) ≡ left_by (priorities h) c (priority_of x)
+  priorities-signal_to h k c w x s held is = λ i d. priorities-signal_to_at h k c w x s d held is i
+
   map-taken : (h : List (Event S)) (c d : ℕ)
       → map priority_of (cond (d == c) (behind_first (in_turn h d)) (in_turn h d)) ≡ taken (priorities h) c d
   unfolding priorities
@@ -265,7 +418,7 @@ module _ {S : Type 0} where
       by false = refl
 
   -- a signal and a pass take the first priority
-  pub priorities-handing : (out : Bool) (h : List (Event S)) (k c w : ℕ) (s : S) → turn h ≡ Held k → Chooses c h w
+  pub priorities-handing : (out : Hand) (h : List (Event S)) (k c w : ℕ) (s : S) → turn h ≡ Held k → Chooses c h w
       → priorities (h ++ handing out k c w s ∷ []) ≡ taken (priorities h) c
   unfolding priorities
   priorities-handing out h k c w s is chooses = λ i d.

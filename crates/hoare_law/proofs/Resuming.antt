@@ -14,10 +14,10 @@ use Rattle.hoare_law.specs.declared.event.Event.{Event}
 use Rattle.hoare_law.specs.declared.event.History.{History}
 use Rattle.hoare_law.specs.declared.event.Sizes.{Sizes}
 use Rattle.hoare_law.specs.declared.event.Event.TheVariants.{Admit, Wait, Signal, Pass, Leave, Resume, Back, Notify}
-use Rattle.hoare_law.specs.declared.event.Event.TheVariants.{Broadcast}
+use Rattle.hoare_law.specs.declared.event.Event.TheVariants.{Broadcast, SignalTo}
 use Rattle.hoare_law.specs.declared.turn.Turn.TheVariants.{Held, Owed}
 use Rattle.hoare_law.specs.Events.{place_of, own, newest, cut_to, with_event}
-use Rattle.hoare_law.specs.Waiting.{priority_of, condition_of, waits_on, waiting, is_least, chosen}
+use Rattle.hoare_law.specs.Waiting.{priority_of, condition_of, waits_on, waiting, is_least, chosen, wait_by}
 use Rattle.hoare_law.specs.Priorities.{in_order}
 use Rattle.hoare_law.specs.Called.{called, called_by}
 use Rattle.hoare_law.specs.Turns.{After, stays, frees, hands, after, is_signal, urgent, turn, turn_of, turn_given_up}
@@ -30,7 +30,8 @@ use Rattle.hoare_law.proofs.Filters.{list_all-filter_none, list_all-from_All, li
 use Rattle.hoare_law.proofs.Sorted.{in_order-filter, length-in_order}
 use Rattle.hoare_law.proofs.Called.{called-push}
 use Rattle.hoare_law.proofs.Turns.{turn-push}
-use Rattle.hoare_law.proofs.Held.{is_free, EndsHanding, IsOwed, handed, next_called, handing}
+use Rattle.hoare_law.proofs.Held.{is_free, EndsHanding, IsOwed, handed, next_called, Hand, by_pass, by_signal}
+use Rattle.hoare_law.proofs.Held.{by_signal_to, handing}
 use Rattle.hoare_law.proofs.Held.{turn-owed, called-free, own-held}
 use Rattle.hoare_law.proofs.Waiters.{own-return, waiting-once}
 use Rattle.hoare_law.proofs.Fronts.{IsHanded, owed-handed, own-owed}
@@ -122,6 +123,7 @@ module _ {S : Type 0} where
   often_called_by f (Admit k s) w few all = omega (arith, few)
   often_called_by f (Wait k c p s) w few all = omega (arith, few)
   often_called_by f (Signal k c v s) w few all = omega (arith, few)
+  often_called_by f (SignalTo k c v s) w few all = omega (arith, few)
   often_called_by f (Pass k c v s) w few all = omega (arith, few)
   often_called_by f (Leave k s) w few all = omega (arith, few)
   often_called_by f (Resume k c s) w few all = omega (arith, few)
@@ -224,6 +226,7 @@ module _ {S : Type 0} where
 
   pub signal_waits_not : (x : Event S) (c : ℕ) → is_signal x ≡ true → waits_on c x ≡ false
   signal_waits_not (Signal k d w s) c is = refl
+  signal_waits_not (SignalTo k d w s) c is = refl
   signal_waits_not (Admit k s) c is = absurd (cc)
   signal_waits_not (Wait k d p s) c is = absurd (cc)
   signal_waits_not (Pass k d w s) c is = absurd (cc)
@@ -248,16 +251,23 @@ module _ {S : Type 0} where
           let many = ap length first in record { up = up; signallers = omega (arith, many); nobody = refl }
       counts (all_stay back admit up stay) = absurd (cc)
 
-  -- a signal and a pass notify no process
-  handing_calls : (out : Bool) (h : List (Event S)) (k c w : ℕ) (s : S) → called_by h (handing out k c w s) ≡ []
-  handing_calls true h k c w s = refl
-  handing_calls false h k c w s = refl
+  -- signals and passes notify no process
+  handing_calls : (out : Hand) (h : List (Event S)) (k c w : ℕ) (s : S) → called_by h (handing out k c w s) ≡ []
+  handing_calls by_pass h k c w s = refl
+  handing_calls by_signal h k c w s = refl
+  handing_calls by_signal_to h k c w s = refl
 
   pub chosen_among : (c : ℕ) (h : List (Event S)) (x : Event S) (p : Event S → Bool) → chosen c h ≡ Some x
       → list_all p (waiting c h) ≡ true → p x ≡ true
   unfolding chosen
   chosen_among c h x p is all =
       All-find (λ y. p y ≡ true) (is_least (waiting c h)) (waiting c h) x is (All-from_list_all p (waiting c h) all)
+
+  pub waiting_among : (c w : ℕ) (h : List (Event S)) (x : Event S) (p : Event S → Bool) → wait_by w c h ≡ Some x
+      → list_all p (waiting c h) ≡ true → p x ≡ true
+  unfolding wait_by
+  waiting_among c w h x p is all =
+      All-find (λ y. p y ≡ true) (λ e. place_of e == w) (waiting c h) x is (All-from_list_all p (waiting c h) all)
 
   handed_apart : (f : History S) (k c : ℕ) → IsLegal f → EndsHanding k c f.events
       → list_all (λ y. not (k == place_of y)) (called f.events) ≡ true
@@ -280,7 +290,7 @@ module _ {S : Type 0} where
           → not (k == place_of y) ≡ true
       other x r y was =
           let apart : not (place_of y == place_of x) ≡ true =
-          chosen_among c r.hand.before x (λ z. not (place_of y == place_of z)) r.chose (was.apart c) in
+          waiting_among c k r.hand.before x (λ z. not (place_of y == place_of z)) r.waited (was.apart c) in
           ap not (eq_swap k (place_of y) ∙ ap (λ j. place_of y == j) (sym (ap place_of r.is))) ∙ apart
 
   resumed_event : (f : History S) (k c : ℕ) (s : S) → IsLegal f → Allowed f (Resume k c s)
@@ -332,6 +342,8 @@ module _ {S : Type 0} where
   called_step f (Leave k s) legal may some = inside_event f.sizes f (Leave k s) legal may.fits refl refl refl
   called_step f (Signal k c w s) legal may some =
       inside_event f.sizes f (Signal k c w s) legal may.fits.0 refl refl refl
+  called_step f (SignalTo k c w s) legal may some =
+      inside_event f.sizes f (SignalTo k c w s) legal may.fits.0 refl refl refl
   called_step f (Pass k c w s) legal may some = inside_event f.sizes f (Pass k c w s) legal may.fits.0 refl refl refl
   called_step f (Notify k c w s) legal may some =
       inside_event f.sizes f (Notify k c w s) legal may.fits.0 refl refl refl

@@ -13,7 +13,7 @@ use Rattle.hoare_law.specs.declared.event.Event.{Event}
 use Rattle.hoare_law.specs.declared.event.History.{History}
 use Rattle.hoare_law.specs.declared.turn.Turn.TheVariants.{Held}
 use Rattle.hoare_law.specs.declared.event.Event.TheVariants.{Admit, Wait, Signal, Pass, Leave, Resume, Back, Notify}
-use Rattle.hoare_law.specs.declared.event.Event.TheVariants.{Broadcast}
+use Rattle.hoare_law.specs.declared.event.Event.TheVariants.{Broadcast, SignalTo}
 use Rattle.hoare_law.specs.Events.{place_of, own, newest}
 use Rattle.hoare_law.specs.Called.{called}
 use Rattle.hoare_law.specs.Waiting.{condition_of, waits_on, concerns, is_untouched, waiting}
@@ -178,6 +178,7 @@ module _ {S : Type 0} where
 
   signal_no_wait : (y : Event S) → is_signal y ≡ true → is_wait y ≡ false
   signal_no_wait (Signal k d w s) is = refl
+  signal_no_wait (SignalTo k d w s) is = refl
   signal_no_wait (Admit k s) is = absurd (cc)
   signal_no_wait (Wait k d p s) is = absurd (cc)
   signal_no_wait (Pass k d w s) is = absurd (cc)
@@ -195,6 +196,7 @@ module _ {S : Type 0} where
   in_no_wait (Broadcast k d s) is = refl
   in_no_wait (Wait k d p s) is = absurd (cc)
   in_no_wait (Signal k d w s) is = absurd (cc)
+  in_no_wait (SignalTo k d w s) is = absurd (cc)
   in_no_wait (Pass k d w s) is = absurd (cc)
   in_no_wait (Leave k s) is = absurd (cc)
 
@@ -245,6 +247,7 @@ module _ {S : Type 0} where
       waits_there (Wait k c q s) is = eq-eqb c c refl
       waits_there (Admit k s) is = absurd (cc)
       waits_there (Signal k c w s) is = absurd (cc)
+      waits_there (SignalTo k c w s) is = absurd (cc)
       waits_there (Pass k c w s) is = absurd (cc)
       waits_there (Leave k s) is = absurd (cc)
       waits_there (Resume k c s) is = absurd (cc)

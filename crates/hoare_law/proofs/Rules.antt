@@ -8,7 +8,7 @@ use Rattle.std.proofs.lemmas.List.Elements.{All-nil, All-cons, All-weaker}
 use Rattle.hoare_law.specs.declared.event.Event.{Event}
 use Rattle.hoare_law.specs.declared.event.History.{History}
 use Rattle.hoare_law.specs.declared.event.Event.TheVariants.{Admit, Wait, Signal, Pass, Leave, Resume, Back, Notify}
-use Rattle.hoare_law.specs.declared.event.Event.TheVariants.{Broadcast}
+use Rattle.hoare_law.specs.declared.event.Event.TheVariants.{Broadcast, SignalTo}
 use Rattle.hoare_law.specs.declared.turn.Turn.TheVariants.{Free, Held, Owed, Return}
 use Rattle.hoare_law.specs.Events.{latest_data, with_event}
 use Rattle.hoare_law.specs.Waiting.{priority_of, waiting, is_least, chosen}
@@ -16,7 +16,7 @@ use Rattle.hoare_law.specs.Turns.{turn}
 use Rattle.hoare_law.specs.Legal.{Allowed}
 use Rattle.hoare_law.proofs.Tests.{both_true}
 use Rattle.hoare_law.proofs.Events.{latest_data-push}
-use Rattle.hoare_law.proofs.Held.{handing, data_of-handing}
+use Rattle.hoare_law.proofs.Held.{Hand, handing, data_of-handing}
 use Rattle.hoare_law.proofs.Leaving.{turn-handing}
 use Rattle.hoare_law.proofs.Waiters.{chosen-least}
 
@@ -87,6 +87,7 @@ module _ {S : Type 0} where
   only_resume f (Admit j s) w c is a = let t : Free ≡ Owed w c = sym a.fits.0 ∙ is in absurd (cc)
   only_resume f (Wait j d p s) w c is a = let t : Held j ≡ Owed w c = sym a.fits ∙ is in absurd (cc)
   only_resume f (Signal j d v s) w c is a = let t : Held j ≡ Owed w c = sym a.fits.0 ∙ is in absurd (cc)
+  only_resume f (SignalTo j d v s) w c is a = let t : Held j ≡ Owed w c = sym a.fits.0 ∙ is in absurd (cc)
   only_resume f (Pass j d v s) w c is a = let t : Held j ≡ Owed w c = sym a.fits.0 ∙ is in absurd (cc)
   only_resume f (Leave j s) w c is a = let t : Held j ≡ Owed w c = sym a.fits ∙ is in absurd (cc)
   only_resume f (Notify j d v s) w c is a = let t : Held j ≡ Owed w c = sym a.fits.0 ∙ is in absurd (cc)
@@ -94,7 +95,7 @@ module _ {S : Type 0} where
   only_resume f (Back j s) w c is a = let t : Return j ≡ Owed w c = sym a.fits.0 ∙ is in absurd (cc)
 
   -- after a signal or a pass only the resumed process acts next, with the data as they were left
-  pub after_handing : (out : Bool) (f : History S) (k c w : ℕ) (s : S) (e : Event S)
+  pub after_handing : (out : Hand) (f : History S) (k c w : ℕ) (s : S) (e : Event S)
       → Allowed (with_event f (handing out k c w s)) e → e ≡ Resume w c s
   after_handing out f k c w s e a =
       only_resume (with_event f (handing out k c w s)) e w c (turn-handing out f k c w s) a
@@ -109,6 +110,7 @@ module _ {S : Type 0} where
   only_back f (Admit j s) k is a = let t : Free ≡ Return k = sym a.fits.0 ∙ is in absurd (cc)
   only_back f (Wait j d p s) k is a = let t : Held j ≡ Return k = sym a.fits ∙ is in absurd (cc)
   only_back f (Signal j d v s) k is a = let t : Held j ≡ Return k = sym a.fits.0 ∙ is in absurd (cc)
+  only_back f (SignalTo j d v s) k is a = let t : Held j ≡ Return k = sym a.fits.0 ∙ is in absurd (cc)
   only_back f (Pass j d v s) k is a = let t : Held j ≡ Return k = sym a.fits.0 ∙ is in absurd (cc)
   only_back f (Leave j s) k is a = let t : Held j ≡ Return k = sym a.fits ∙ is in absurd (cc)
   only_back f (Notify j d v s) k is a = let t : Held j ≡ Return k = sym a.fits.0 ∙ is in absurd (cc)

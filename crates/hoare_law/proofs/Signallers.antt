@@ -10,7 +10,7 @@ use Rattle.std.proofs.lemmas.List.Elements.{All-nil, All-cons, All-weaker}
 use Rattle.hoare_law.specs.declared.event.Event.{Event}
 use Rattle.hoare_law.specs.declared.event.History.{History}
 use Rattle.hoare_law.specs.declared.event.Event.TheVariants.{Admit, Wait, Signal, Pass, Leave, Resume, Back, Notify}
-use Rattle.hoare_law.specs.declared.event.Event.TheVariants.{Broadcast}
+use Rattle.hoare_law.specs.declared.event.Event.TheVariants.{Broadcast, SignalTo}
 use Rattle.hoare_law.specs.declared.turn.Turn.TheVariants.{Held, Return}
 use Rattle.hoare_law.specs.Events.{place_of, own, newest, cut_to}
 use Rattle.hoare_law.specs.Turns.{After, stays, frees, hands, after, is_signal, urgent, turn, turn_of, turn_given_up}
@@ -26,7 +26,8 @@ use Rattle.hoare_law.proofs.Events.{newest-push}
 use Rattle.hoare_law.proofs.Legal.{IsLegal-front}
 use Rattle.hoare_law.proofs.Turns.{urgent-push, turn-push}
 use Rattle.hoare_law.proofs.Held.{is_inside, gives_up, turn-held, turn-return, urgent-free, own-held, IsOwed}
-use Rattle.hoare_law.proofs.Held.{handed, next_called, handing, turn-owed, is_free}
+use Rattle.hoare_law.proofs.Held.{handed, next_called, Hand, by_pass, by_signal, by_signal_to, handing, turn-owed}
+use Rattle.hoare_law.proofs.Held.{is_free}
 use Rattle.hoare_law.proofs.Waiters.{LastSignals, All-urgent}
 use Rattle.hoare_law.proofs.Fronts.{own-owed}
 
@@ -125,6 +126,7 @@ module _ {S : Type 0} where
   give_up_same (Admit k s) = refl
   give_up_same (Wait k c p s) = refl
   give_up_same (Signal k c w s) = refl
+  give_up_same (SignalTo k c w s) = refl
   give_up_same (Pass k c w s) = refl
   give_up_same (Leave k s) = refl
   give_up_same (Resume k c s) = refl
@@ -141,6 +143,7 @@ module _ {S : Type 0} where
   inside_keeps (Wait k c p s) is = absurd (cc)
   inside_keeps (Leave k s) is = absurd (cc)
   inside_keeps (Signal k c w s) is = absurd (cc)
+  inside_keeps (SignalTo k c w s) is = absurd (cc)
   inside_keeps (Pass k c w s) is = absurd (cc)
 
   -- while a place is inside, the last event wasn't a release
@@ -180,9 +183,10 @@ module _ {S : Type 0} where
       ∙ ap (λ l. l ++ cond (is_signal e) (place_of e ∷ []) [])
       (filter-all (λ u. not (place_of e == u)) (urgent h) apart)
 
-  pub handing_keeps : (out : Bool) (k c w : ℕ) (s : S) → is_release (handing out k c w s) ≡ false
-  handing_keeps true k c w s = refl
-  handing_keeps false k c w s = refl
+  pub handing_keeps : (out : Hand) (k c w : ℕ) (s : S) → is_release (handing out k c w s) ≡ false
+  handing_keeps by_pass k c w s = refl
+  handing_keeps by_signal k c w s = refl
+  handing_keeps by_signal_to k c w s = refl
 
   pub in_no_signal : (e : Event S) → is_inside e ≡ true → is_signal e ≡ false
   in_no_signal (Admit k s) is = refl
@@ -194,6 +198,7 @@ module _ {S : Type 0} where
   in_no_signal (Leave k s) is = refl
   in_no_signal (Pass k c w s) is = refl
   in_no_signal (Signal k c w s) is = absurd (cc)
+  in_no_signal (SignalTo k c w s) is = absurd (cc)
 
   pub by_inside : (h : List (Event S)) (e : Event S) → turn h ≡ Held (place_of e) → is_back e ≡ false
       → is_admit e ≡ false → UrgentStep h e
@@ -230,6 +235,7 @@ module _ {S : Type 0} where
   urgent_step f (Wait k c p s) legal may some = by_inside f.events (Wait k c p s) may.fits refl refl
   urgent_step f (Leave k s) legal may some = by_inside f.events (Leave k s) may.fits refl refl
   urgent_step f (Signal k c w s) legal may some = by_inside f.events (Signal k c w s) may.fits.0 refl refl
+  urgent_step f (SignalTo k c w s) legal may some = by_inside f.events (SignalTo k c w s) may.fits.0 refl refl
   urgent_step f (Pass k c w s) legal may some = by_inside f.events (Pass k c w s) may.fits.0 refl refl
   urgent_step f (Notify k c w s) legal may some = by_inside f.events (Notify k c w s) may.fits.0 refl refl
   urgent_step f (Broadcast k c s) legal may some = by_inside f.events (Broadcast k c s) may.fits.0 refl refl

@@ -9,10 +9,10 @@ use Rattle.std.proofs.lemmas.List.{append-nil}
 use Rattle.hoare_law.specs.declared.event.Event.{Event}
 use Rattle.hoare_law.specs.declared.event.History.{History}
 use Rattle.hoare_law.specs.declared.event.Event.TheVariants.{Admit, Wait, Signal, Pass, Leave, Resume, Back, Notify}
-use Rattle.hoare_law.specs.declared.event.Event.TheVariants.{Broadcast}
+use Rattle.hoare_law.specs.declared.event.Event.TheVariants.{Broadcast, SignalTo}
 use Rattle.hoare_law.specs.declared.turn.Turn.TheVariants.{Held}
 use Rattle.hoare_law.specs.Events.{place_of, own, newest, cut_to}
-use Rattle.hoare_law.specs.Waiting.{condition_of, waits_on, concerns, Chooses}
+use Rattle.hoare_law.specs.Waiting.{condition_of, waits_on, concerns, IsWaiting}
 use Rattle.hoare_law.specs.Called.{called}
 use Rattle.hoare_law.specs.Turns.{urgent, turn}
 use Rattle.hoare_law.specs.Legal.{Allowed, IsLegal}
@@ -21,13 +21,14 @@ use Rattle.hoare_law.specs.Overtaking.{is_notification, notifications, is_wait, 
 use Rattle.hoare_law.proofs.Tests.{list_all-filter}
 use Rattle.hoare_law.proofs.Events.{newest-push}
 use Rattle.hoare_law.proofs.Filters.{HasLast, nothing, pushed, has_last}
-use Rattle.hoare_law.proofs.Held.{is_inside, gives_up, IsOwed, handed, next_called, handing}
+use Rattle.hoare_law.proofs.Held.{is_inside, gives_up, IsOwed, handed, next_called, Hand, by_pass, by_signal}
+use Rattle.hoare_law.proofs.Held.{by_signal_to, handing}
 use Rattle.hoare_law.proofs.Held.{turn-held, turn-return, turn-owed, urgent-free}
-use Rattle.hoare_law.proofs.Priorities.{Chooses-chosen}
+use Rattle.hoare_law.proofs.Priorities.{Chooses-waits, waiting-wait_by}
 use Rattle.hoare_law.proofs.Signallers.{some_of, legal_upto, own_other}
 use Rattle.hoare_law.proofs.Signallers.{meanwhile, urgent-signal, signal_bound, length-parts}
 use Rattle.hoare_law.proofs.PassedOver.{one_if, counted_more}
-use Rattle.hoare_law.proofs.Resuming.{length-filter_le, chosen_among, returned_more, called_at_most}
+use Rattle.hoare_law.proofs.Resuming.{length-filter_le, waiting_among, returned_more, called_at_most}
 use Rattle.hoare_law.proofs.Room.{anywhere-push, waiting-anywhere, room_for_all}
 
 -- a filter that not all pass keeps less
@@ -71,11 +72,11 @@ module _ {S : Type 0} where
       added true = refl
       added false = refl
 
-  -- a signal and a pass take a waiter
+  -- signals and passes take a waiter
   anywhere_less : (f : List (Event S)) (e : Event S) (k c w : ℕ) → is_wait e ≡ false
-      → ((b i : ℕ) → concerns b i e ≡ (k == i || w == i)) → Chooses c f w
+      → ((b i : ℕ) → concerns b i e ≡ (k == i || w == i)) → IsWaiting c f w
       → length (waiting_anywhere (f ++ e ∷ [])) + 1 ≤ length (waiting_anywhere f)
-  anywhere_less f e k c w no_wait both chooses = by (list_all p (waiting_anywhere f)) refl
+  anywhere_less f e k c w no_wait both waits = by (list_all p (waiting_anywhere f)) refl
     where
       p : Event S → Bool
       p x = not (concerns (condition_of x) (place_of x) e)
@@ -88,9 +89,9 @@ module _ {S : Type 0} where
           → length (waiting_anywhere (f ++ e ∷ [])) + 1 ≤ length (waiting_anywhere f)
       by false some = let less = filter_less p (waiting_anywhere f) some in omega (arith, left, less)
       by true all =
-          let r = Chooses-chosen c w f chooses in
+          let r = waiting-wait_by c w f waits in
           let passes : p r.0 ≡ true =
-          chosen_among c f r.0 p r.1
+          waiting_among c w f r.0 p r.1
           (ap (list_all p) (waiting-anywhere c f) ∙ list_all-filter p (waits_on c) (waiting_anywhere f) all) in
           let touched : concerns (condition_of r.0) (place_of r.0) e ≡ true =
           both (condition_of r.0) (place_of r.0)
@@ -100,6 +101,7 @@ module _ {S : Type 0} where
   -- the event hands off the monitor to a waiter
   abbrev is_hand : Event S → Bool
   is_hand (Signal k c w s) = true
+  is_hand (SignalTo k c w s) = true
   is_hand (Pass k c w s) = true
   is_hand _ = false
 
@@ -147,6 +149,7 @@ module _ {S : Type 0} where
   in_neither (Wait k c p s) is = absurd (cc)
   in_neither (Leave k s) is = absurd (cc)
   in_neither (Signal k c w s) is = absurd (cc)
+  in_neither (SignalTo k c w s) is = absurd (cc)
   in_neither (Pass k c w s) is = absurd (cc)
 
   up_hands_not : (e : Event S) → gives_up e ≡ true → is_hand e ≡ false
@@ -158,12 +161,14 @@ module _ {S : Type 0} where
   up_hands_not (Notify k c w s) is = absurd (cc)
   up_hands_not (Broadcast k c s) is = absurd (cc)
   up_hands_not (Signal k c w s) is = absurd (cc)
+  up_hands_not (SignalTo k c w s) is = absurd (cc)
   up_hands_not (Pass k c w s) is = absurd (cc)
 
-  handing_hands : (out : Bool) (k c w : ℕ) (s : S)
+  handing_hands : (out : Hand) (k c w : ℕ) (s : S)
       → (is_hand (handing out k c w s) ≡ true) × (is_wait (handing out k c w s) ≡ false)
-  handing_hands true k c w s = (refl, refl)
-  handing_hands false k c w s = (refl, refl)
+  handing_hands by_pass k c w s = (refl, refl)
+  handing_hands by_signal k c w s = (refl, refl)
+  handing_hands by_signal_to k c w s = (refl, refl)
 
   -- what one event does while signallers wait
   record StayStep (f : List (Event S)) (e : Event S) : Type 0 where
@@ -196,8 +201,8 @@ module _ {S : Type 0} where
 
   stay_hand : (f : List (Event S)) (e : Event S) (k c w : ℕ) → turn f ≡ Held k → is_hand e ≡ true
       → is_resume e ≡ false → is_back e ≡ false → begins_visit e ≡ false → is_wait e ≡ false
-      → ((b i : ℕ) → concerns b i e ≡ (k == i || w == i)) → Chooses c f w → StayStep f e
-  stay_hand f e k c w held hand resume back coming no_wait both chooses =
+      → ((b i : ℕ) → concerns b i e ≡ (k == i || w == i)) → IsWaiting c f w → StayStep f e
+  stay_hand f e k c w held hand resume back coming no_wait both waits =
       let l = held_last f k held in
       let a : one_if (is_hand e) ≡ 1 = ap one_if hand in
       let b : one_if (is_resume e) ≡ 0 = ap one_if resume in
@@ -206,7 +211,7 @@ module _ {S : Type 0} where
       record {
         hand = omega (arith, l.0, b);
         came = omega (arith, b, d, g);
-        waits = omega (arith, l.1, a, d, anywhere_less f e k c w no_wait both chooses);
+        waits = omega (arith, l.1, a, d, anywhere_less f e k c w no_wait both waits);
       }
 
   stay_step : (f : History S) (e : Event S) → IsLegal f → Allowed f e → urgent f.events ≢ [] → StayStep f.events e
@@ -236,9 +241,13 @@ module _ {S : Type 0} where
   stay_step f (Notify k c w s) legal may some = stay_inside f.events (Notify k c w s) k may.fits.0 refl refl refl refl
   stay_step f (Broadcast k c s) legal may some = stay_inside f.events (Broadcast k c s) k may.fits.0 refl refl refl refl
   stay_step f (Signal k c w s) legal may some =
-      stay_hand f.events (Signal k c w s) k c w may.fits.0 refl refl refl refl refl (λ b i. refl) may.fits.1
+      stay_hand f.events (Signal k c w s) k c w may.fits.0 refl refl refl refl refl (λ b i. refl)
+      (Chooses-waits c w f.events may.fits.1)
+  stay_step f (SignalTo k c w s) legal may some =
+      stay_hand f.events (SignalTo k c w s) k c w may.fits.0 refl refl refl refl refl (λ b i. refl) may.fits.1
   stay_step f (Pass k c w s) legal may some =
-      stay_hand f.events (Pass k c w s) k c w may.fits.0 refl refl refl refl refl (λ b i. refl) may.fits.1
+      stay_hand f.events (Pass k c w s) k c w may.fits.0 refl refl refl refl refl (λ b i. refl)
+      (Chooses-waits c w f.events may.fits.1)
 
   -- the visits that begin while a signaller waits: one for each return, and one for each signal and pass
   record Stays (f later : List (Event S)) : Type 0 where
@@ -319,14 +328,15 @@ module _ {S : Type 0} where
       let one : handed_last g ≡ 1 = handed-push f (Signal k c w s) in
       let shut : waited_last g ≡ 0 = waited-push f (Signal k c w s) in
       let less : length (waiting_anywhere g) + 1 ≤ length (waiting_anywhere f) =
-      anywhere_less f (Signal k c w s) k c w refl (λ b i. refl) may.1 in
+      anywhere_less f (Signal k c w s) k c w refl (λ b i. refl) (Chooses-waits c w f may.1) in
       omega (arith, many, one, shut, less, r.begun, r.fed, waited_room (g ++ later))
 
   -- a place that may signal finds a waiter
   signal_waits : (f : History S) (k c w : ℕ) (s : S) → Allowed f (Signal k c w s)
       → 1 ≤ length (waiting_anywhere f.events)
   signal_waits f k c w s may =
-      let less = anywhere_less f.events (Signal k c w s) k c w refl (λ b i. refl) may.fits.1 in omega (arith, less)
+      let waits = Chooses-waits c w f.events may.fits.1 in
+      let less = anywhere_less f.events (Signal k c w s) k c w refl (λ b i. refl) waits in omega (arith, less)
 
   -- so if a place may signal, there are at least two places more than signallers
   pub signal_room : (f : History S) (k c w : ℕ) (s : S) → IsLegal f → Allowed f (Signal k c w s)
@@ -393,6 +403,7 @@ module _ {S : Type 0} where
   event_step f (Wait k c p s) may = let held = inside-held f.events k may.fits in omega (arith, held)
   event_step f (Leave k s) may = let held = inside-held f.events k may.fits in omega (arith, held)
   event_step f (Signal k c w s) may = let held = inside-held f.events k may.fits.0 in omega (arith, held)
+  event_step f (SignalTo k c w s) may = let held = inside-held f.events k may.fits.0 in omega (arith, held)
   event_step f (Pass k c w s) may = let held = inside-held f.events k may.fits.0 in omega (arith, held)
 
   more_notified : (e : Event S) (later : List (Event S))

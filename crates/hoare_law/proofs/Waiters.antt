@@ -9,14 +9,15 @@ use Rattle.hoare_law.specs.declared.event.History.{History}
 use Rattle.hoare_law.specs.declared.turn.Turn.TheVariants.{Held, Return}
 use Rattle.hoare_law.specs.Events.{place_of, own, newest}
 use Rattle.hoare_law.specs.Waiting.{condition_of, filter_by_later, waits_on, concerns, is_last_act, is_untouched}
-use Rattle.hoare_law.specs.Waiting.{is_least, waiting, chosen}
+use Rattle.hoare_law.specs.Waiting.{is_least, waiting, chosen, wait_by}
 use Rattle.hoare_law.specs.Turns.{is_signal, urgent, turn}
 use Rattle.hoare_law.specs.Legal.{IsInRange, IsLegal}
 use Rattle.hoare_law.proofs.Tests.{both_true, eq_swap}
 use Rattle.hoare_law.proofs.Events.{newest-push}
 use Rattle.hoare_law.proofs.Filters.{filter-none, list_all-at, list_all-from_All, All-find, find-passes}
 use Rattle.hoare_law.proofs.Filters.{All-filter_by_later}
-use Rattle.hoare_law.proofs.Held.{is_inside, handing, own_is_concerned, waits_on-is, turn-held, turn-return}
+use Rattle.hoare_law.proofs.Held.{is_inside, Hand, by_pass, by_signal, by_signal_to, handing, own_is_concerned}
+use Rattle.hoare_law.proofs.Held.{waits_on-is, turn-held, turn-return}
 
 module _ {S : Type 0} where
   -- x waits on c in h: it is a wait on c, and its place's last event
@@ -80,10 +81,11 @@ module _ {S : Type 0} where
   All-in_range h test legal =
       All-filter_by_later (IsInRange h.sizes) test h.events (λ f e later is t. in_range-at h f later e legal is)
 
-  pub handing_in_range : (out : Bool) (h : History S) (k c w : ℕ) (s : S) → IsInRange h.sizes (handing out k c w s)
+  pub handing_in_range : (out : Hand) (h : History S) (k c w : ℕ) (s : S) → IsInRange h.sizes (handing out k c w s)
       → (w < h.sizes.places) × (c < h.sizes.conditions)
-  handing_in_range true h k c w s r = (r.1.1, r.1.0)
-  handing_in_range false h k c w s r = (r.1.1, r.1.0)
+  handing_in_range by_pass h k c w s r = (r.1.1, r.1.0)
+  handing_in_range by_signal h k c w s r = (r.1.1, r.1.0)
+  handing_in_range by_signal_to h k c w s r = (r.1.1, r.1.0)
 
   -- the place whose turn it is, is a place of the monitor
   pub held-in_range : (h : History S) (k : ℕ) → IsLegal h → turn h.events ≡ Held k → k < h.sizes.places
@@ -123,6 +125,16 @@ module _ {S : Type 0} where
   chosen-in_range c h x legal is =
       All-find (IsInRange h.sizes) (is_least (waiting c h.events)) (waiting c h.events) x is
       (All-in_range h (λ e later. waits_on c e && is_untouched c e later) legal)
+
+  -- a place that waits is a place of the monitor
+  pub wait_by-in_range : (c w : ℕ) (h : History S) (x : Event S) → IsLegal h → wait_by w c h.events ≡ Some x
+      → w < h.sizes.places
+  unfolding wait_by waiting
+  wait_by-in_range c w h x legal is =
+      let found = All-find (IsInRange h.sizes) (λ e. place_of e == w) (waiting c h.events) x is
+      (All-in_range h (λ e later. waits_on c e && is_untouched c e later) legal) in
+      subst (λ (i : ℕ). i < h.sizes.places)
+      (eqb-true (place_of x) w (find-passes (λ e. place_of e == w) (waiting c h.events) x is)) found.0
 
   -- no waiter has a smaller priority than the chosen one
   pub chosen-least : (c : ℕ) (h : List (Event S)) (x : Event S) → chosen c h ≡ Some x → is_least (waiting c h) x ≡ true

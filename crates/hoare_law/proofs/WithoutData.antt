@@ -1,6 +1,7 @@
 -- Which processes wait, which is chosen, whose turn it is and which places are outside don't depend on the data.
 use Rattle.std.proofs.Common.{◌≡◌, ◌==◌, ◌&&◌, ◌||◌, not, ℕ, List, [], ◌∷◌, ◌++◌, map, Bool, true, false, cond, leb}
 use Rattle.std.proofs.Common.{Option, Some, None, refl, ap, sym, ◌∙◌}
+use Rattle.std.specs.Prelude.{◌↔◌}
 use Rattle.std.specs.Option.{option_map}
 use Rattle.std.specs.List.{find, filter}
 use Rattle.std.proofs.lemmas.List.{map-append}
@@ -10,10 +11,10 @@ use Rattle.hoare_law.specs.declared.event.Event.{Event}
 use Rattle.hoare_law.specs.declared.event.History.{History}
 use Rattle.hoare_law.specs.declared.turn.Turn.TheVariants.{Owed}
 use Rattle.hoare_law.specs.declared.event.Event.TheVariants.{Admit, Wait, Signal, Pass, Leave, Resume, Back, Notify}
-use Rattle.hoare_law.specs.declared.event.Event.TheVariants.{Broadcast}
+use Rattle.hoare_law.specs.declared.event.Event.TheVariants.{Broadcast, SignalTo}
 use Rattle.hoare_law.specs.Events.{place_of, own, newest, with_event}
 use Rattle.hoare_law.specs.Waiting.{filter_by_later, waits_on, priority_of, condition_of, takes, concerns, is_last_act}
-use Rattle.hoare_law.specs.Waiting.{is_untouched, waiting, is_least, chosen}
+use Rattle.hoare_law.specs.Waiting.{is_untouched, waiting, is_least, chosen, wait_by, IsWaiting}
 use Rattle.hoare_law.specs.Called.{join_splits, called_by, called}
 use Rattle.hoare_law.specs.Turns.{After, stays, frees, hands, after, is_signal, urgent, turn, turn_of, turn_by}
 use Rattle.hoare_law.specs.Turns.{turn_given_up, turn_after, is_out, outside}
@@ -21,6 +22,7 @@ use Rattle.hoare_law.specs.Priorities.{put_in, put_all, in_order, priorities}
 use Rattle.hoare_law.specs.Internal.WithoutData.{without_data, all_without_data, dataless}
 use Rattle.hoare_law.proofs.Turns.{filter-map}
 use Rattle.hoare_law.proofs.Filters.{list_all-same, find-same}
+use Rattle.hoare_law.proofs.Priorities.{waiting-wait_by, IsWaiting-by}
 use Rattle.hoare_law.proofs.Sorted.{map-in_order, put_in-map}
 
 -- maps and filters commute
@@ -87,6 +89,7 @@ module _ {S : Type 0} where
   same_parts (Admit k s) = (refl, refl, refl, λ c. refl, λ c j. refl, refl, refl, refl)
   same_parts (Wait k d p s) = (refl, refl, refl, λ c. refl, λ c j. refl, refl, refl, refl)
   same_parts (Signal k d w s) = (refl, refl, refl, λ c. refl, λ c j. refl, refl, refl, refl)
+  same_parts (SignalTo k d w s) = (refl, refl, refl, λ c. refl, λ c j. refl, refl, refl, refl)
   same_parts (Pass k d w s) = (refl, refl, refl, λ c. refl, λ c j. refl, refl, refl, refl)
   same_parts (Leave k s) = (refl, refl, refl, λ c. refl, λ c j. refl, refl, refl, refl)
   same_parts (Resume k d s) = (refl, refl, refl, λ c. refl, λ c j. refl, refl, refl, refl)
@@ -199,6 +202,7 @@ module _ {S : Type 0} where
   called_by-dataless f (Admit k s) = refl
   called_by-dataless f (Wait k c p s) = refl
   called_by-dataless f (Signal k c w s) = refl
+  called_by-dataless f (SignalTo k c w s) = refl
   called_by-dataless f (Pass k c w s) = refl
   called_by-dataless f (Leave k s) = refl
   called_by-dataless f (Resume k c s) = refl
@@ -248,6 +252,36 @@ module _ {S : Type 0} where
       ap (λ ws. find (is_least ws) ws) (waiting-dataless c h)
       ∙ find-map without_data (is_least (all_without_data (waiting c h))) (waiting c h)
       ∙ ap (option_map without_data) (find-same _ (is_least (waiting c h)) (waiting c h) (least-dataless (waiting c h)))
+
+  -- the wait of a place is the same
+  pub wait_by-dataless : (w c : ℕ) (h : List (Event S))
+      → wait_by w c (all_without_data h) ≡ option_map without_data (wait_by w c h)
+  unfolding wait_by
+  wait_by-dataless w c h =
+      ap (find (λ e. place_of e == w)) (waiting-dataless c h)
+      ∙ find-map without_data (λ e. place_of e == w) (waiting c h)
+      ∙ ap (option_map without_data)
+      (find-same _ (λ e. place_of e == w) (waiting c h) (λ e. ap (λ k. k == w) (place_of-dataless e)))
+
+  -- the same places wait
+  pub waiting_place-dataless : (w c : ℕ) (h : List (Event S)) → IsWaiting c (all_without_data h) w ↔ IsWaiting c h w
+  waiting_place-dataless w c h = (back, forth)
+    where
+      by : (o : Option (Event S)) → wait_by w c h ≡ o → (y : Event (Unit {0}))
+          → option_map without_data (wait_by w c h) ≡ Some y → IsWaiting c h w
+      by None none y some = let no : None ≡ Some y = sym (ap (option_map without_data) none) ∙ some in absurd (cc)
+      by (Some x) found y some = IsWaiting-by c w h x found
+
+      back : IsWaiting c (all_without_data h) w → IsWaiting c h w
+      back is =
+          let r = waiting-wait_by c w (all_without_data h) is in
+          by (wait_by w c h) refl r.0 (sym (wait_by-dataless w c h) ∙ r.1)
+
+      forth : IsWaiting c h w → IsWaiting c (all_without_data h) w
+      forth is =
+          let r = waiting-wait_by c w h is in
+          IsWaiting-by c w (all_without_data h) (without_data r.0)
+          (wait_by-dataless w c h ∙ ap (option_map without_data) r.1)
 
   priorities_at : (h : List (Event S)) (c : ℕ) → priorities (all_without_data h) c ≡ priorities h c
   unfolding priorities

@@ -8,7 +8,7 @@ use Rattle.hoare_law.specs.declared.event.Event.{Event}
 use Rattle.hoare_law.specs.declared.event.History.{History}
 use Rattle.hoare_law.specs.declared.event.Sizes.{Sizes}
 use Rattle.hoare_law.specs.declared.event.Event.TheVariants.{Admit, Wait, Signal, Pass, Leave, Resume, Back, Notify}
-use Rattle.hoare_law.specs.declared.event.Event.TheVariants.{Broadcast}
+use Rattle.hoare_law.specs.declared.event.Event.TheVariants.{Broadcast, SignalTo}
 
 -- the place that acts
 abbrev pub place_of : {S : Type 0} → Event S → ℕ
@@ -16,6 +16,7 @@ place_of (Admit k s) = k
 place_of (Wait k c p s) = k
 place_of (Signal k c w s) = k
 place_of (Pass k c w s) = k
+place_of (SignalTo k c w s) = k
 place_of (Leave k s) = k
 place_of (Resume k c s) = k
 place_of (Back k s) = k
@@ -28,6 +29,7 @@ data_of (Admit k s) = s
 data_of (Wait k c p s) = s
 data_of (Signal k c w s) = s
 data_of (Pass k c w s) = s
+data_of (SignalTo k c w s) = s
 data_of (Leave k s) = s
 data_of (Resume k c s) = s
 data_of (Back k s) = s

@@ -4,9 +4,9 @@ use Rattle.std.specs.Prelude.{ℕ, List, [], ◌∷◌, ◌++◌, ◌≡◌, ◌
 use Rattle.hoare_law.specs.declared.event.Event.{Event}
 use Rattle.hoare_law.specs.declared.event.History.{History}
 use Rattle.hoare_law.specs.declared.event.Event.TheVariants.{Admit, Wait, Signal, Pass, Leave, Resume, Back, Notify}
-use Rattle.hoare_law.specs.declared.event.Event.TheVariants.{Broadcast}
+use Rattle.hoare_law.specs.declared.event.Event.TheVariants.{Broadcast, SignalTo}
 use Rattle.hoare_law.specs.Events.{place_of, own, newest, with_event}
-use Rattle.hoare_law.specs.Waiting.{waiting, Chooses}
+use Rattle.hoare_law.specs.Waiting.{waiting, Chooses, IsWaiting}
 
 -- h begins with f
 pub record Begins {S : Type 0} (f h : History S) : Type 0 where
@@ -36,6 +36,12 @@ pub record AddsTwo {S : Type 0} (f : History S) (d e : Event S) (h : History S) 
 pub data Signals {S : Type 0} (k c : ℕ) (s t : S) (f h : History S) : Bool → Type 0 where
   resumed_one : (w : ℕ) → Chooses c f.events w → AddsTwo f (Signal k c w s) (Back k t) h → Signals k c s t f h true
   nobody_waited : waiting c f.events ≡ [] → h ≡ f → t ≡ s → Signals k c s t f h false
+
+-- what a signal to place w adds: it resumed w, and t are the data that the signaller finds when it returns; or w didn't
+-- wait on c, and nothing is added. The `Bool` is true if w was resumed
+pub data SignalsTo {S : Type 0} (k c w : ℕ) (s t : S) (f h : History S) : Bool → Type 0 where
+  resumed_it : IsWaiting c f.events w → AddsTwo f (SignalTo k c w s) (Back k t) h → SignalsTo k c w s t f h true
+  no_waiter : (IsWaiting c f.events w → ⊥) → h ≡ f → t ≡ s → SignalsTo k c w s t f h false
 
 -- what a pass adds, a signal joined with the exit: it resumed a waiter, or no process waited and it is a plain leave.
 -- The `Bool` is true if a waiter was resumed

@@ -6,7 +6,7 @@ use Rattle.hoare_law.specs.declared.event.Event.{Event}
 use Rattle.hoare_law.specs.declared.event.History.{History}
 use Rattle.hoare_law.specs.Events.{data_of}
 use Rattle.hoare_law.specs.Turns.{After, stays, frees, hands, after}
-use Rattle.hoare_law.specs.Waiting.{priority_of, chosen}
+use Rattle.hoare_law.specs.Waiting.{priority_of, wait_by}
 use Rattle.hoare_law.specs.Priorities.{priorities, nobody}
 use Rattle.hoare_law.specs.Legal.{IsLegal}
 
@@ -19,13 +19,13 @@ abbrev pub Ready : Type 0 → Type 1
 Ready S = ℕ → ℕ → S → (ℕ → List ℕ) → Type 0
 
 -- what the event e owes, if f came before and `After` is what e makes of the monitor. If the monitor is released, e
--- owes `rest`. If it is handed off to the waiter chosen on c, e owes `ready` for that wait. If the same place stays
+-- owes `rest`. If it is handed off to w, which waits on c, e owes `ready` for that wait. If the same place stays
 -- inside, it owes nothing. The priorities are those after e.
 abbrev pub OwesAfter : {S : Type 0} → Rest S → Ready S → List (Event S) → Event S → After → Type 0
 OwesAfter rest ready f e stays = ⊤
 OwesAfter rest ready f e frees = rest (data_of e) (priorities (f ++ e ∷ []))
 OwesAfter rest ready f e (hands w c) =
-    IsSomeAnd (chosen c f) (λ x. ready c (priority_of x) (data_of e) (priorities (f ++ e ∷ [])))
+    IsSomeAnd (wait_by w c f) (λ x. ready c (priority_of x) (data_of e) (priorities (f ++ e ∷ [])))
 
 -- what the event e owes, if f came before
 unfoldable pub Owes : {S : Type 0} → Rest S → Ready S → List (Event S) → Event S → Type 0

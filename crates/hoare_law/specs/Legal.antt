@@ -4,11 +4,11 @@ use Rattle.hoare_law.specs.declared.event.Event.{Event}
 use Rattle.hoare_law.specs.declared.event.History.{History}
 use Rattle.hoare_law.specs.declared.event.Sizes.{Sizes}
 use Rattle.hoare_law.specs.declared.event.Event.TheVariants.{Admit, Wait, Signal, Pass, Leave, Resume, Back, Notify}
-use Rattle.hoare_law.specs.declared.event.Event.TheVariants.{Broadcast}
+use Rattle.hoare_law.specs.declared.event.Event.TheVariants.{Broadcast, SignalTo}
 use Rattle.hoare_law.specs.declared.turn.Turn.TheVariants.{Free, Held, Owed, Return}
 use Rattle.hoare_law.specs.Events.{place_of, latest_data, cut_to}
 use Rattle.hoare_law.specs.Sizes.{IsHoare, IsMesa}
-use Rattle.hoare_law.specs.Waiting.{waiting, Chooses}
+use Rattle.hoare_law.specs.Waiting.{waiting, Chooses, IsWaiting}
 use Rattle.hoare_law.specs.Turns.{turn, outside}
 
 -- the condition and the other place that the event names are in range for the monitor's sizes
@@ -16,6 +16,7 @@ abbrev pub NamesInRange : {S : Type 0} → Sizes → Event S → Type 0
 NamesInRange n (Wait k c p s) = c < n.conditions
 NamesInRange n (Signal k c w s) = (c < n.conditions) × (w < n.places)
 NamesInRange n (Pass k c w s) = (c < n.conditions) × (w < n.places)
+NamesInRange n (SignalTo k c w s) = (c < n.conditions) × (w < n.places)
 NamesInRange n (Resume k c s) = c < n.conditions
 NamesInRange n (Notify k c w s) = (c < n.conditions) × (w < n.places)
 NamesInRange n (Broadcast k c s) = c < n.conditions
@@ -26,8 +27,9 @@ abbrev pub IsInRange : {S : Type 0} → Sizes → Event S → Type 0
 IsInRange n e = (place_of e < n.places) × NamesInRange n e
 
 -- it is the turn for the event, a place that enters is outside, and the data found are as they were left. A signal, a
--- pass or a notify names the place of the chosen waiter, and a broadcast finds a waiter. The condition is of the right
--- kind: signals and passes are for Hoare's, notifies and broadcasts for Mesa conditions
+-- pass or a notify names the place of the chosen waiter, a signal to a place that of any waiter, and a broadcast finds
+-- a waiter. The condition is of the right kind: signals and passes are for Hoare's, notifies and broadcasts for Mesa
+-- conditions
 abbrev pub Fits : {S : Type 0} → History S → Event S → Type 0
 Fits f (Admit k s) = (turn f.events ≡ Free) × (outside k f.events ≡ true) × (s ≡ latest_data f)
 Fits f (Resume k c s) = (turn f.events ≡ Owed k c) × (s ≡ latest_data f)
@@ -36,6 +38,8 @@ Fits f (Wait k c p s) = turn f.events ≡ Held k
 Fits f (Leave k s) = turn f.events ≡ Held k
 Fits f (Signal k c w s) = (turn f.events ≡ Held k) × Chooses c f.events w × IsHoare f.sizes.conditions f.sizes.mesa c
 Fits f (Pass k c w s) = (turn f.events ≡ Held k) × Chooses c f.events w × IsHoare f.sizes.conditions f.sizes.mesa c
+Fits f (SignalTo k c w s) =
+    (turn f.events ≡ Held k) × IsWaiting c f.events w × IsHoare f.sizes.conditions f.sizes.mesa c
 Fits f (Notify k c w s) = (turn f.events ≡ Held k) × Chooses c f.events w × IsMesa f.sizes.conditions f.sizes.mesa c
 Fits f (Broadcast k c s) =
     (turn f.events ≡ Held k) × (waiting c f.events ≢ []) × IsMesa f.sizes.conditions f.sizes.mesa c

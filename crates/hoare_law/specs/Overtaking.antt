@@ -3,7 +3,7 @@ use Rattle.std.specs.Prelude.{ℕ, List, ◌++◌, ◌+◌, ◌==◌, ◌&&◌, 
 use Rattle.std.specs.List.{filter}
 use Rattle.hoare_law.specs.declared.event.Event.{Event}
 use Rattle.hoare_law.specs.declared.event.Event.TheVariants.{Admit, Wait, Signal, Pass, Leave, Resume, Back, Notify}
-use Rattle.hoare_law.specs.declared.event.Event.TheVariants.{Broadcast}
+use Rattle.hoare_law.specs.declared.event.Event.TheVariants.{Broadcast, SignalTo}
 use Rattle.hoare_law.specs.declared.event.History.{History}
 use Rattle.hoare_law.specs.declared.event.Sizes.{Sizes}
 use Rattle.hoare_law.specs.Events.{place_of, cut_to}
@@ -57,6 +57,15 @@ takes_from c _ = false
 -- how many waiters are taken from c by events that take one each
 unfoldable pub taken_from : {S : Type 0} → ℕ → List (Event S) → ℕ
 taken_from c later = length (filter (takes_from c) later)
+
+-- the event is a signal to a place that waits on c
+abbrev pub signals_on : {S : Type 0} → ℕ → Event S → Bool
+signals_on c (SignalTo k d w s) = d == c
+signals_on c _ = false
+
+-- how many signals to places that wait on c there are
+unfoldable pub signals_to : {S : Type 0} → ℕ → List (Event S) → ℕ
+signals_to c later = length (filter (signals_on c) later)
 
 -- how many processes begin to wait on c with a priority less than p
 unfoldable pub waits_below : {S : Type 0} → ℕ → ℕ → List (Event S) → ℕ

@@ -42,3 +42,12 @@ behind_first (x ∷ xs) = xs
 -- the lists without the first element of the list of c
 abbrev pub taken : (ℕ → List ℕ) → ℕ → ℕ → List ℕ
 taken lists c d = if d == c then behind_first (lists d) else lists d
+
+-- the list without its first element that is p; a list without p stays as it is
+abbrev pub without_one : ℕ → List ℕ → List ℕ
+without_one p [] = []
+without_one p (x ∷ xs) = if x == p then xs else x ∷ without_one p xs
+
+-- the lists without one p in the list of c
+abbrev pub left_by : (ℕ → List ℕ) → ℕ → ℕ → ℕ → List ℕ
+left_by lists c p d = if d == c then without_one p (lists d) else lists d

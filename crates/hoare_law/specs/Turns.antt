@@ -4,16 +4,17 @@
 use Rattle.std.specs.Prelude.{ℕ, List, [], ◌∷◌, ◌&&◌, Bool, true, false, Option, Some, None, map}
 use Rattle.hoare_law.specs.declared.event.Event.{Event}
 use Rattle.hoare_law.specs.declared.event.Event.TheVariants.{Admit, Wait, Signal, Pass, Leave, Resume, Back, Notify}
-use Rattle.hoare_law.specs.declared.event.Event.TheVariants.{Broadcast}
+use Rattle.hoare_law.specs.declared.event.Event.TheVariants.{Broadcast, SignalTo}
 use Rattle.hoare_law.specs.declared.turn.Turn.{Turn}
 use Rattle.hoare_law.specs.declared.turn.Turn.TheVariants.{Free, Held, Owed, Return}
 use Rattle.hoare_law.specs.Events.{place_of, own, newest}
 use Rattle.hoare_law.specs.Waiting.{condition_of, filter_by_later, is_last_act}
 use Rattle.hoare_law.specs.Called.{called}
 
--- the event is a signal
+-- the event is a signal, to a place or to the chosen waiter
 abbrev pub is_signal : {S : Type 0} → Event S → Bool
 is_signal (Signal k c w s) = true
+is_signal (SignalTo k c w s) = true
 is_signal _ = false
 
 -- the waiting signallers: the places whose last event is a signal, in the order of those events (that the longest
@@ -41,6 +42,7 @@ after (Wait k c p s) = frees
 after (Leave k s) = frees
 after (Signal k c w s) = hands w c
 after (Pass k c w s) = hands w c
+after (SignalTo k c w s) = hands w c
 after _ = stays
 
 -- the turn after an event of k that has this effect; us are the waiting signallers, ws the notified processes

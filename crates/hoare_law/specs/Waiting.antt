@@ -1,9 +1,10 @@
--- Which processes wait, and which waiter a signal resumes (Hoare 1974, Scheduled Waits) or a notify notifies.
+-- Which processes wait, and which waiter a signal resumes (Hoare 1974, Scheduled Waits) or a notify notifies. That a
+-- signal to a place resumes that place, whoever else waits, is this project's choice.
 use Rattle.std.specs.Prelude.{ℕ, List, [], ◌∷◌, ◌==◌, ◌&&◌, ◌||◌, not, nat_le, Bool, false, if◌then◌else◌, Option}
 use Rattle.std.specs.Prelude.{IsSomeAnd, ◌≡◌}
 use Rattle.std.specs.List.{list_all, find}
 use Rattle.hoare_law.specs.declared.event.Event.{Event}
-use Rattle.hoare_law.specs.declared.event.Event.TheVariants.{Wait, Signal, Pass, Notify, Broadcast}
+use Rattle.hoare_law.specs.declared.event.Event.TheVariants.{Wait, Signal, Pass, Notify, Broadcast, SignalTo}
 use Rattle.hoare_law.specs.Events.{place_of}
 
 -- the elements for which the test holds; the test sees the element and all that come after it
@@ -34,6 +35,7 @@ is_last_act e later = list_all (λ x. not (place_of x == place_of e)) later
 abbrev pub takes : {S : Type 0} → ℕ → ℕ → Event S → Bool
 takes c k (Signal j d w s) = w == k
 takes c k (Pass j d w s) = w == k
+takes c k (SignalTo j d w s) = w == k
 takes c k (Notify j d w s) = w == k
 takes c k (Broadcast j d s) = d == c
 takes c k _ = false
@@ -63,3 +65,11 @@ chosen c h = find (is_least (waiting c h)) (waiting c h)
 -- a waiter on c is chosen, and its place is w
 unfoldable pub Chooses : {S : Type 0} → ℕ → List (Event S) → ℕ → Type 0
 Chooses c h w = IsSomeAnd (chosen c h) (λ e. place_of e ≡ w)
+
+-- the wait of place w, if w waits on c
+unfoldable pub wait_by : {S : Type 0} → ℕ → ℕ → List (Event S) → Option (Event S)
+wait_by w c h = find (λ e. place_of e == w) (waiting c h)
+
+-- place w waits on c
+unfoldable pub IsWaiting : {S : Type 0} → ℕ → List (Event S) → ℕ → Type 0
+IsWaiting c h w = IsSomeAnd (wait_by w c h) (λ e. place_of e ≡ w)

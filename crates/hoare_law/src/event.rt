@@ -6,8 +6,8 @@ use std::collections::LinkedList;
 ///
 /// `place` is the number of the process's place, `condition` the number of a condition; `resumed` and `called` are the
 /// place of the waiter that the event takes from the condition. `data` is the monitor's data: as the process left them
-/// (`Wait`, `Signal`, `Pass`, `Leave`), as it found them (`Admit`, `Resume`, `Back`), or as they are in hand then
-/// (`Notify`, `Broadcast`).
+/// (`Wait`, `Signal`, `Pass`, `SignalTo`, `Leave`), as it found them (`Admit`, `Resume`, `Back`), or as they are in
+/// hand then (`Notify`, `Broadcast`).
 pub enum Event<S> {
     /// The process enters from outside.
     Admit {
@@ -30,6 +30,13 @@ pub enum Event<S> {
     },
     /// The process, which is inside, hands off the monitor to a waiter, and is outside: a signal as the last act.
     Pass {
+        place: usize,
+        condition: usize,
+        resumed: usize,
+        data: S,
+    },
+    /// The process, which is inside, hands off the monitor to the waiter that it names, and is held up as a signaller.
+    SignalTo {
         place: usize,
         condition: usize,
         resumed: usize,

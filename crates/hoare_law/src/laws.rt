@@ -5,7 +5,7 @@ ghost use Rattle.std.specs.Prelude.{false, length, map};
 ghost use Rattle.hoare_law.specs.declared.event.Event.{Event};
 ghost use Rattle.hoare_law.specs.declared.event.History.{History};
 ghost use Rattle.hoare_law.specs.declared.event.Event.TheVariants.{Admit, Wait, Signal, Pass, Resume, Back, Notify};
-ghost use Rattle.hoare_law.specs.declared.event.Event.TheVariants.{Broadcast};
+ghost use Rattle.hoare_law.specs.declared.event.Event.TheVariants.{Broadcast, SignalTo};
 ghost use Rattle.hoare_law.specs.declared.turn.Turn.TheVariants.{Free, Held, Owed, Return};
 ghost use Rattle.hoare_law.specs.Events.{place_of, own, newest, latest_data, with_event};
 ghost use Rattle.hoare_law.specs.Sizes.{IsHoare, IsMesa};
@@ -17,7 +17,8 @@ ghost use Rattle.hoare_law.specs.Legal.{Allowed, IsLegal};
 ghost use Rattle.hoare_law.specs.Growth.{Begins, AddsTwo};
 ghost use Rattle.hoare_law.specs.Admissions.{admissions};
 ghost use Rattle.hoare_law.specs.Overtaking.{with_events, releases, returned, signals, resumed_called, taken_from};
-ghost use Rattle.hoare_law.specs.Overtaking.{waits_below, waiters_up_to, visits, notifications, waiting_anywhere};
+ghost use Rattle.hoare_law.specs.Overtaking.{signals_to, waits_below, waiters_up_to, visits, notifications};
+ghost use Rattle.hoare_law.specs.Overtaking.{waiting_anywhere};
 
 /// After each beginning of a legal history at most one place is inside, by its own last event. After a legal history it
 /// is then that place's turn, and a place whose turn it is isn't outside too (Hoare 1974, Introduction).
@@ -37,6 +38,8 @@ pub fn nothing_intervenes<S>()
         → Allowed (with_event h (Signal k c w s)) e → e ≡ Resume w c s }
     ensures pass { (h : History S) (k c w : ℕ) (s : S) (e : Event S)
         → Allowed (with_event h (Pass k c w s)) e → e ≡ Resume w c s }
+    ensures signal_to { (h : History S) (k c w : ℕ) (s : S) (e : Event S)
+        → Allowed (with_event h (SignalTo k c w s)) e → e ≡ Resume w c s }
 {}
 
 /// A process enters only if no signaller waits to return (Hoare 1974, Interpretation), and no notified process has yet
@@ -202,12 +205,12 @@ pub fn releases_until_resume<S>()
 
 /// While a waiter waits on c, with m waiters before it in the order of signals, at most m + l waiters are taken from c.
 /// Here l is how many processes began to wait on c with a lesser priority since. The waiter is the next to be taken
-/// exactly when m + l were taken. Of equal priorities the first to wait is the first to be taken (Hoare 1974, Scheduled
-/// Waits).
+/// exactly when m + l were taken, if no waiter on c was resumed by a signal to it meanwhile. Of equal priorities the
+/// first to wait is the first to be taken (Hoare 1974, Scheduled Waits).
 pub fn waiters_taken_in_turn<S>()
     ensures exact { (c : ℕ) (h : History S) (later before behind : List (Event S)) (x : Event S)
         → IsLegal (with_events h later) → in_order priority_of (waiting c h.events) ≡ before ++ x ∷ behind
-        → is_untouched c x later ≡ true
+        → is_untouched c x later ≡ true → signals_to c later ≡ 0
         → (left joined : List (Event S))
         × (in_order priority_of (waiting c (h.events ++ later)) ≡ left ++ x ∷ joined)
         × (length left + taken_from c later ≡ length before + waits_below c (priority_of x) later) }
@@ -217,7 +220,7 @@ pub fn waiters_taken_in_turn<S>()
         → taken_from c later ≤ length before + waits_below c (priority_of x) later }
     ensures its_turn { (c : ℕ) (h : History S) (later before behind : List (Event S)) (x : Event S)
         → IsLegal (with_events h later) → in_order priority_of (waiting c h.events) ≡ before ++ x ∷ behind
-        → is_untouched c x later ≡ true
+        → is_untouched c x later ≡ true → signals_to c later ≡ 0
         → (chosen c (h.events ++ later) ≡ Some x)
         ↔ (taken_from c later ≡ length before + waits_below c (priority_of x) later) }
     ensures first_come { (c : ℕ) (h longer between shorter : List (Event S)) (x y : Event S)
@@ -265,14 +268,16 @@ pub fn between_signal_and_return<S>()
 {}
 
 /// What the caller of `wait` learns when it resumes from one of Hoare's conditions: how many waiters were taken from
-/// the condition between its wait and its resumption. They are as many as waited there before it with at most its
-/// priority, plus as many as began to wait there later with a lesser priority, plus the caller itself.
+/// the condition between its wait and its resumption, if no waiter there was resumed by a signal to it. They are as
+/// many as waited there before it with at most its priority, plus as many as began to wait there later with a lesser
+/// priority, plus the caller itself.
 pub fn between_wait_and_resume<S>()
     ensures { (f h : History S) (k c p : ℕ) (s t : S) → IsLegal h
         → IsHoare h.sizes.conditions h.sizes.mesa c → AddsTwo f (Wait k c p s) (Resume k c t) h
         → (later : List (Event S)) × (h.events ≡ f.events ++ Wait k c p s ∷ (later ++ Resume k c t ∷ []))
         × (own k later ≡ [])
-        × (taken_from c later ≡ waiters_up_to c p f.events + waits_below c p later + 1) }
+        × (signals_to c later ≡ 0
+        → taken_from c later ≡ waiters_up_to c p f.events + waits_below c p later + 1) }
 {}
 
 /// The admissions between two moments are the difference of `admissions`. So a process that is to be the i-th, counted

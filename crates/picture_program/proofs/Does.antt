@@ -12,7 +12,7 @@ use Rattle.std.proofs.lemmas.List.Elements.{All-contains_itself}
 use Rattle.hoare_law.specs.declared.event.Event.{Event}
 use Rattle.hoare_law.specs.declared.event.History.{History}
 use Rattle.hoare_law.specs.declared.event.Event.TheVariants.{Admit, Wait, Signal, Pass, Leave, Resume, Back, Notify}
-use Rattle.hoare_law.specs.declared.event.Event.TheVariants.{Broadcast}
+use Rattle.hoare_law.specs.declared.event.Event.TheVariants.{Broadcast, SignalTo}
 use Rattle.hoare_law.specs.declared.turn.Turn.{Turn}
 use Rattle.hoare_law.specs.declared.turn.Turn.TheVariants.{Free, Held, Owed, Return}
 use Rattle.hoare_law.specs.Events.{place_of, own, newest, with_event}
@@ -73,6 +73,7 @@ told (Back k s) = record { inside = λ is. refl; signals = never; out = never }
 told (Notify k c w s) = record { inside = λ is. refl; signals = never; out = never }
 told (Broadcast k c s) = record { inside = λ is. refl; signals = never; out = never }
 told (Signal k c w s) = record { inside = never; signals = λ is. refl; out = never }
+told (SignalTo k c w s) = record { inside = never; signals = λ is. refl; out = never }
 told (Pass k c w s) = record { inside = never; signals = never; out = λ is. refl }
 told (Leave k s) = record { inside = never; signals = never; out = λ is. refl }
 told (Wait k c p s) = record { inside = never; signals = never; out = never }

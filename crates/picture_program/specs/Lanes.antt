@@ -86,6 +86,7 @@ numbered n l = l
 abbrev pub left_by : Event (Unit {0}) → Lane
 left_by (event.Wait k c p s) = lanes.Waiting c p
 left_by (event.Signal k c w s) = lanes.Signalling
+left_by (event.SignalTo k c w s) = lanes.Signalling
 left_by (event.Pass k c w s) = lanes.Outside
 left_by (event.Leave k s) = lanes.Outside
 left_by _ = lanes.Inside

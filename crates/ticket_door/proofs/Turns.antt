@@ -8,7 +8,7 @@ use Rattle.atomic_table.proofs.Lists.{one_turn}
 use Rattle.hoare_law.specs.declared.event.Event.{Event}
 use Rattle.hoare_law.specs.declared.event.History.{History}
 use Rattle.hoare_law.specs.declared.event.Event.TheVariants.{Admit, Wait, Signal, Pass, Leave, Resume, Back, Notify}
-use Rattle.hoare_law.specs.declared.event.Event.TheVariants.{Broadcast}
+use Rattle.hoare_law.specs.declared.event.Event.TheVariants.{Broadcast, SignalTo}
 use Rattle.hoare_law.specs.declared.turn.Turn.{Turn}
 use Rattle.hoare_law.specs.declared.turn.Turn.TheVariants.{Free, Held, Owed, Return}
 use Rattle.hoare_law.specs.Events.{place_of, with_event}
@@ -107,6 +107,7 @@ no_admit f (Admit k s) may busy = absurd (busy may.fits.0)
 no_admit f (Wait k c p s) may busy = refl
 no_admit f (Signal k c w s) may busy = refl
 no_admit f (Pass k c w s) may busy = refl
+no_admit f (SignalTo k c w s) may busy = refl
 no_admit f (Leave k s) may busy = refl
 no_admit f (Resume k c s) may busy = refl
 no_admit f (Back k s) may busy = refl

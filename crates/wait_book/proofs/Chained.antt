@@ -20,7 +20,7 @@ use Rattle.wait_book.specs.Chains.{lists_of}
 use Rattle.wait_book.proofs.Times.{one_same, one_apart}
 use Rattle.wait_book.proofs.Nodes.{Opens, opens, IsLinked-same, IsLinked-append, IsLinked-split, linked_none}
 use Rattle.wait_book.proofs.Nodes.{last_within, last_append, walk_linked, walked_none, naming, behind-contains}
-use Rattle.wait_book.proofs.Nodes.{same_end}
+use Rattle.wait_book.proofs.Nodes.{linked_nowhere, same_end}
 use Rattle.wait_book.proofs.Lists.{eq_apart, keys_middle, keys_append, length_middle, length_put, length_one, put_same}
 use Rattle.wait_book.proofs.Lists.{put_other, times_put, times_one, times_two}
 
@@ -196,7 +196,7 @@ pub record Linking (s mid t : Slab Node) (first behind next first2 : Option ℕ)
   pub vacant : get s x.key ≡ None
   pub stored : Updates s mid x.key (Some (node_of x next))
   pub longer : slab_len mid ≡ slab_len s + 1
-  pub put : IsKeyPut first behind x.key first2 mid t
+  pub put : IsKeyPut first behind (Some x.key) first2 mid t
 
 module _ {s mid t : Slab Node} {first behind next first2 : Option ℕ} {x : Link}
     (g : Linking s mid t first behind next first2 x) where
@@ -322,101 +322,218 @@ AreChains-linked {s = s} {t = t} {chains = chains} {at = at} {behind = behind} {
 
 -- a node is removed
 
--- the list xs begins with the link of the node n under the key k, and the links after it are linked from the key on
--- that n holds; the slab t is s without that node
+-- there is a node under the key of each link
+pub node_contains : {s : Slab Node} {chains : List Chain} {at : ℕ → List Link} (c k : ℕ) (before : List Link) (x : Link)
+    (after : List Link) → AreChains s chains at → at c ≡ before ++ x ∷ after → x.key ≡ k → ContainsKey s k
+node_contains {s = s} c k before x after i is q =
+    subst (λ (j : ℕ). ContainsKey s j) q (rw (cut c before (x ∷ after) i is).back.2 refl)
+
+-- the node n of the link x was removed: the slab t is s without it
+pub record Removes (s t : Slab Node) (x : Link) (n : Node) : Type 0 where
+  pub was : get s x.key ≡ Some n
+  pub node : node_of x n.next ≡ n
+  pub place : x.place ≡ n.place
+  pub updates : Updates s t x.key None
+
+-- it follows from the removal under a key that is the link's
+pub removes : {s t : Slab Node} {chains : List Chain} {at : ℕ → List Link} (c k : ℕ) (before : List Link) (x : Link)
+    (after : List Link) (n : Node)
+    → AreChains s chains at → at c ≡ before ++ x ∷ after → x.key ≡ k → get s k ≡ Some n → Updates s t k None
+    → Removes s t x n
+removes {s = s} {t = t} {chains = chains} c k before x after n i is q g u =
+    let there : Cut s (chain_at chains c).first before (x ∷ after) = cut c before (x ∷ after) i is in
+    let was : get s x.key ≡ Some n = ap (get s) q ∙ g in
+    let same : Some (node_of x there.back.1) ≡ Some n = sym there.back.2 ∙ was in
+    let named : node_of x there.back.1 ≡ n = cc in
+    record {
+      was = was;
+      node = ap (λ (m : Node). node_of x m.next) (sym named) ∙ named;
+      place = ap (λ (m : Node). m.place) named;
+      updates = subst (λ (j : ℕ). Updates s t j None) (sym q) u;
+    }
+
+-- the nodes before that of the link are as they were after it is removed
+pub cut-removed : {s mid : Slab Node} {chains : List Chain} {at : ℕ → List Link} (c : ℕ) (before : List Link) (x : Link)
+    (after : List Link) (next : Option ℕ)
+    → AreChains s chains at → c < CHAINS → at c ≡ before ++ x ∷ after → Updates s mid x.key None
+    → IsLinked s (chain_at chains c).first before next → IsLinked mid (chain_at chains c).first before next
+cut-removed {s = s} {mid = mid} {chains = chains} c before x after next i l is u front =
+    IsLinked-same s mid (chain_at chains c).first before next
+    (λ k p. u.others k (λ q. omega (
+      arith,
+      once_in i k c l,
+      held_few s k,
+      ap (λ v. times k (keys v)) is,
+      keys_append k before (x ∷ after),
+      subst (λ (j : ℕ). one j x.key ≡ 1) (sym q) (one_same x.key),
+    ))) front
+
+-- what removing a node does, in two steps: the node is removed, and the key that follows it is put after `behind`
+pub record Unlinking (s mid t : Slab Node) (first behind first2 : Option ℕ) (x : Link) (n : Node) : Type 0 where
+  pub removed : Removes s mid x n
+  pub shorter : slab_len mid + 1 ≡ slab_len s
+  pub put : IsKeyPut first behind n.next first2 mid t
+
+module _ {s mid t : Slab Node} {first behind first2 : Option ℕ} {x : Link} {n : Node}
+    (g : Unlinking s mid t first behind first2 x n) where
+  -- there is one node less
+  unlinking_held : (k : ℕ) → held t k + one k x.key ≡ held s k
+  unlinking_held k =
+      elim (cases_eq k x.key) [
+        | inl e ↦
+            let h : held t x.key + one x.key x.key ≡ held s x.key =
+            omega (
+              arith,
+              g.put.held_on x.key,
+              held_none mid x.key g.removed.updates.changed,
+              held_some s x.key n g.removed.was,
+              one_same x.key,
+            ) in
+            subst (λ (j : ℕ). held t j + one j x.key ≡ held s j) (sym e) h
+        | inr off ↦ omega (
+          arith,
+          g.put.held_on k,
+          held_same s mid k (g.removed.updates.others k off),
+          one_apart k x.key (eq_apart k x.key off),
+        )
+      ]
+
+  -- the list without the removed link
+  unlinking_list : (before after : List Link) (mark : Option ℕ) → behind ≡ last_key before
+      → ((k : ℕ) → times k (keys (before ++ after)) + one k x.key ≤ held s k)
+      → IsLinked mid first before mark → IsLinked s n.next after None → IsLinked t first2 (before ++ after) None
+  unlinking_list before after mark e once l m =
+      let linked : IsLinked t first2 before n.next =
+      g.put.linked before mark l e (λ k. omega (arith, once k, held_few s k, keys_append k before after)) in
+      let back : IsLinked t n.next after None = IsLinked-same s t n.next after None
+      (λ k p. let few : times k (keys before) + one k x.key ≡ 0 =
+      omega (arith, once k, held_few s k, keys_append k before after) in
+      g.put.others k (λ b. omega (arith, few, last_within k before (sym e ∙ b)))
+      ∙ g.removed.updates.others k
+      (λ q. omega (arith, few, subst (λ (j : ℕ). one j x.key ≡ 1) (sym q) (one_same x.key)))) m in
+      IsLinked-append t first2 before n.next after None linked back
+
+-- the last key of the list without the link x
+last_unlinked : (s : Slab Node) (last next behind : Option ℕ) (before : List Link) (x : Link) (after : List Link)
+    → last ≡ last_key (before ++ x ∷ after) → behind ≡ last_key before → IsLinked s next after None
+    → cond (is_some next) last behind ≡ last_key (before ++ after)
+last_unlinked s last next behind before x [] e b l =
+    let n : next ≡ None = l in rw n (b ∙ sym (ap last_key (append-nil before)))
+last_unlinked s last next behind before x (y ∷ ys) e b l =
+    let n : next ≡ Some y.key = l.0 in
+    rw n (e ∙ last_append None before x (y ∷ ys) ∙ sym (last_append None before y ys))
+
+-- the chains without a node, for each way to cut the list
+pub AreChains-unlinked : {s mid t : Slab Node} {chains : List Chain} {at : ℕ → List Link}
+    {behind first2 last2 : Option ℕ} {x : Link} {n : Node} (c : ℕ) (before after : List Link)
+    → AreChains s chains at → c < CHAINS → Unlinking s mid t (chain_at chains c).first behind first2 x n
+    → last2 ≡ cond (is_some n.next) (chain_at chains c).last behind
+    → at c ≡ before ++ x ∷ after → behind ≡ last_key before
+    → AreChains t (set chains c (record { first = first2; last = last2 })) (list_put c (before ++ after) at)
+AreChains-unlinked {s = s} {t = t} {chains = chains} {at = at} {behind = behind} {first2 = first2}
+    {last2 = last2} {x = x} {n = n} c before after i l g f is e =
+    let there : Cut s (chain_at chains c).first before (x ∷ after) = cut c before (x ∷ after) i is in
+    let same : Some (node_of x there.back.1) ≡ Some n = sym there.back.2 ∙ g.removed.was in
+    let node : node_of x there.back.1 ≡ n = cc in
+    let back : IsLinked s n.next after None =
+    subst (λ (m : Node). IsLinked s m.next after None) node there.back.3 in
+    let once : (k : ℕ) → times k (keys (before ++ after)) + one k x.key ≤ held s k =
+    λ k. omega (arith, once_in i k c l, ap (λ v. times k (keys v)) is, keys_middle k before x after) in
+    let new : Chain = record { first = first2; last = last2 } in
+    let here : IsChain t new (before ++ after) = record {
+      linked = unlinking_list g before after there.next e once
+          (cut-removed c before x after there.next i l is g.removed.updates there.front) back;
+      last = f ∙ last_unlinked s (chain_at chains c).last n.next behind before x after
+          ((i.linked c).last ∙ ap last_key is) e back;
+    } in
+    let others : (d : ℕ) → d ≢ c → IsChain t (chain_at chains d) (at d) =
+    λ d off. chain_kept s t (chain_at chains d) (at d) (λ k p.
+    let alone : times k (keys (before ++ after)) + one k x.key ≡ 0 =
+    omega (
+      arith,
+      apart i k c d l off,
+      held_few s k,
+      ap (λ v. times k (keys v)) is,
+      keys_middle k before x after,
+    ) in
+    g.put.others k (λ b. omega (arith, alone, keys_append k before after, last_within k before (sym e ∙ b)))
+    ∙ g.removed.updates.others k
+    (λ q. omega (arith, alone, subst (λ (j : ℕ). one j x.key ≡ 1) (sym q) (one_same x.key)))) (i.linked d) in
+    record {
+      many = length-set chains c new ∙ i.many;
+      linked = chains_put t chains at c new (before ++ after) i.many l here others;
+      once = λ k. omega (
+        arith,
+        times_put (λ d (y : Link). y.key) k CHAINS c (before ++ after) at l,
+        keys_middle k before x after,
+        ap (λ v. times k (keys v)) is,
+        i.once k,
+        unlinking_held g k,
+      );
+      counted = omega (
+        arith,
+        length_put (λ d (y : Link). y.key) CHAINS c (before ++ after) at l,
+        length_middle before x after,
+        ap length is,
+        i.counted,
+        g.shorter,
+        g.put.as_long,
+      );
+    }
+
+-- the first node is removed
+
+-- the list xs begins with the link of the node n under the key k; the slab t is s without that node
 pub record Takes (s t : Slab Node) (k : ℕ) (xs : List Link) (n : Node) : Type 0 where
   pub first : Link
   pub after : List Link
   pub is : xs ≡ first ∷ after
   pub key : first.key ≡ k
-  pub node : node_of first n.next ≡ n
-  pub place : first.place ≡ n.place
-  pub linked : IsLinked s n.next after None
-  pub updates : Updates s t first.key None
+  pub removed : Removes s t first n
 
 pub takes : {s t : Slab Node} {chains : List Chain} {at : ℕ → List Link} (c k : ℕ) (n : Node) → AreChains s chains at
     → (chain_at chains c).first ≡ Some k → get s k ≡ Some n
     → Updates s t k None → Takes s t k (at c) n
 takes {s = s} {t = t} {chains = chains} {at = at} c k n i e g u =
     let o : Opens s k (at c) = opens s (chain_at chains c).first k (at c) e (i.linked c).linked in
-    let same : Some (node_of o.first o.next) ≡ Some n = sym o.node ∙ g in
-    let is : node_of o.first o.next ≡ n = cc in
     record {
       first = o.first;
       after = o.after;
       is = o.is;
       key = o.key;
-      node = ap (λ (m : Node). node_of o.first m.next) (sym is) ∙ is;
-      place = ap (λ (m : Node). m.place) is;
-      linked = subst (λ (m : Node). IsLinked s m.next o.after None) is o.linked;
-      updates = subst (λ (j : ℕ). Updates s t j None) (sym o.key) u;
+      removed = removes c k [] o.first o.after n i o.is o.key g u;
     }
+
+-- a key that is put before all changes no node
+put_before : (s : Slab Node) (first next : Option ℕ) → IsKeyPut first None next next s s
+put_before s first next = record {
+  linked = λ before to linked last once. linked_nowhere s next before (sym last);
+  others = λ k off. refl;
+  held_on = λ k. refl;
+  as_long = refl;
+  capacity = refl;
+}
 
 -- the chains without that node
 pub AreChains-taken : {s t : Slab Node} {chains : List Chain} {at : ℕ → List Link} {new : Chain} (c k : ℕ) (n : Node)
     → new.first ≡ n.next → new.last ≡ cond (is_some n.next) (chain_at chains c).last None
     → AreChains s chains at → c < CHAINS → (g : Takes s t k (at c) n) → slab_len t + 1 ≡ slab_len s
     → AreChains t (set chains c new) (list_put c g.after at)
-AreChains-taken {s = s} {t = t} {chains = chains} {at = at} {new = new} c k n f e i l g len =
-    let once : (j : ℕ) → one j g.first.key + times j (keys g.after) ≤ held s j =
-    λ j. omega (arith, once_in i j c l, ap (λ v. times j (keys v)) g.is) in
-    let gone : (j : ℕ) → held t j + one j g.first.key ≡ held s j = λ j.
-    elim (cases_eq j g.first.key) [
-      | inl q ↦
-          let h : held t g.first.key + one g.first.key g.first.key ≡ held s g.first.key =
-          omega (
-            arith,
-            held_none t g.first.key g.updates.changed,
-            once g.first.key,
-            held_few s g.first.key,
-            one_same g.first.key,
-          ) in
-          subst (λ (v : ℕ). held t v + one v g.first.key ≡ held s v) (sym q) h
-      | inr off ↦ omega (
-        arith,
-        held_same s t j (g.updates.others j off),
-        one_apart j g.first.key (eq_apart j g.first.key off),
-      )
-    ] in
-    let same : (j : ℕ) → j ≡ g.first.key → one j g.first.key ≡ 1 =
-    λ j q. subst (λ (v : ℕ). one v g.first.key ≡ 1) (sym q) (one_same g.first.key) in
-    let here : IsChain t new g.after = record {
-      linked = subst (λ (v : Option ℕ). IsLinked t v g.after None) (sym f)
-          (IsLinked-same s t n.next g.after None
-          (λ j p. g.updates.others j (λ q. omega (arith, once j, held_few s j, same j q))) g.linked);
-      last = e ∙ last_taken s (chain_at chains c).last n.next g.first g.after
-          ((i.linked c).last ∙ ap last_key g.is) g.linked;
-    } in
-    let there : (d : ℕ) → d ≢ c → IsChain t (chain_at chains d) (at d) =
-    λ d off. chain_kept s t (chain_at chains d) (at d)
-    (λ j p. g.updates.others j
-    (λ q. omega (arith, apart i j c d l off, held_few s j, ap (λ v. times j (keys v)) g.is, same j q)))
-    (i.linked d) in
-    record {
-      many = length-set chains c new ∙ i.many;
-      linked = chains_put t chains at c new g.after i.many l here there;
-      once = λ j. omega (
-        arith,
-        times_put (λ d (y : Link). y.key) j CHAINS c g.after at l,
-        ap (λ v. times j (keys v)) g.is,
-        i.once j,
-        gone j,
-      );
-      counted = omega (arith, length_put (λ d (y : Link). y.key) CHAINS c g.after at l, ap length g.is, i.counted, len);
-    }
-  where
-    last_taken : (s : Slab Node) (last next : Option ℕ) (x : Link) (after : List Link) → last ≡ last_key (x ∷ after)
-        → IsLinked s next after None
-        → cond (is_some next) last None ≡ last_key after
-    last_taken s last next x [] e l = let n : next ≡ None = l in rw n refl
-    last_taken s last next x (y ∷ ys) e l = let n : next ≡ Some y.key = l.0 in rw n e
+AreChains-taken {t = t} {chains = chains} {new = new} c k n f e i l g len =
+    AreChains-unlinked c [] g.after i l
+    (record {
+      removed = g.removed;
+      shorter = len;
+      put = subst (λ (v : Option ℕ). IsKeyPut (chain_at chains c).first None n.next v t t) (sym f)
+          (put_before t (chain_at chains c).first n.next);
+    }) e g.is refl
 
 -- all of a chain are moved to the end of another
 
 -- the first key of that chain is put after the last key of the called
 pub AreChains-joined : {s t : Slab Node} {chains : List Chain} {at : ℕ → List Link} {first2 : Option ℕ} (c key : ℕ)
     → AreChains s chains at → c < CALLED → (chain_at chains c).first ≡ Some key
-    → IsKeyPut (chain_at chains CALLED).first (chain_at chains CALLED).last key first2 s t
+    → IsKeyPut (chain_at chains CALLED).first (chain_at chains CALLED).last (Some key) first2 s t
     → AreChains t (set (set chains CALLED (record { first = first2; last = (chain_at chains c).last })) c empty)
     (list_put c [] (list_put CALLED (at CALLED ++ at c) at))
 AreChains-joined {s = s} {t = t} {chains = chains} {at = at} {first2 = first2} c key i l starts g =
@@ -538,7 +655,7 @@ module _ {s : Slab Node} {chains : List Chain} {at : ℕ → List Link} {new : C
       called (left.linked CALLED).linked
 
   vacant : get (without s key) leaves.first.key ≡ None
-  vacant = leaves.updates.changed
+  vacant = leaves.removed.updates.changed
 
   -- as if the node were stored anew
   stored : Updates (without s key) mid leaves.first.key (Some (node_of leaves.first None))
@@ -546,7 +663,7 @@ module _ {s : Slab Node} {chains : List Chain} {at : ℕ → List Link} {new : C
       let u : Updates s mid key (Some (naming gone n)) = Updates-with_value s key (naming gone n) (rw g.was refl) in
       subst (λ (j : ℕ). Updates (without s key) mid j (Some (node_of leaves.first None))) (sym leaves.key) (record {
         changed = u.changed ∙ ap (λ (to : Option ℕ). Some (naming to n)) g.ends
-            ∙ ap (λ (m : Node). Some (naming None m)) (sym leaves.node);
+            ∙ ap (λ (m : Node). Some (naming None m)) (sym leaves.removed.node);
         others = λ k off. u.others k off ∙ sym ((without-updates s key n g.was).others k off);
       })
 
@@ -559,7 +676,8 @@ module _ {s : Slab Node} {chains : List Chain} {at : ℕ → List Link} {new : C
 
   -- the chains after its key is put after the last of the called
   pub calls : {t : Slab Node} {first2 : Option ℕ}
-      → (let chain : Chain = chain_at (set chains c new) CALLED in IsKeyPut chain.first chain.last key first2 mid t)
+      → (let chain : Chain = chain_at (set chains c new) CALLED in
+      IsKeyPut chain.first chain.last (Some key) first2 mid t)
       → Calls t (set (set chains c new) CALLED (record { first = first2; last = Some key })) c at
   calls {t = t} {first2 = first2} j =
       let first = (chain_at (set chains c new) CALLED).first in
@@ -568,7 +686,7 @@ module _ {s : Slab Node} {chains : List Chain} {at : ℕ → List Link} {new : C
         vacant = vacant;
         stored = stored;
         longer = omega (arith, with_value-len s key n (naming gone n) g.was, without-fewer s key n g.was);
-        put = subst (λ (k : ℕ). IsKeyPut first last k first2 mid t) (sym leaves.key) j;
+        put = subst (λ (k : ℕ). IsKeyPut first last (Some k) first2 mid t) (sym leaves.key) j;
       } in
       record {
         first = leaves.first;

@@ -1,23 +1,24 @@
 -- What each call does to the histories that a book is of.
 use Rattle.std.proofs.Common.{◌≡◌, ◌≢◌, ◌==◌, ℕ, ◌+◌, ◌<◌, ◌≤◌, Bool, true, false, eq-eqb, eqb-true, cond, not, ◌||◌}
-use Rattle.std.proofs.Common.{inl, inr, arith}
+use Rattle.std.proofs.Common.{inl, inr, arith, length}
 use Rattle.std.proofs.Common.{List, [], ◌∷◌, ◌++◌, map, Option, Some, None, refl, ap, sym, ◌∙◌, subst}
 use Rattle.std.specs.List.{filter}
-use Rattle.std.specs.Prelude.{IsSomeAnd, nat_lt}
+use Rattle.std.specs.Prelude.{IsSomeAnd, nat_lt, ◌↔◌}
 use Rattle.std.proofs.lemmas.Bool.{cases_lt}
 use Rattle.std.proofs.lemmas.Bool.Decides.{nat_tests}
 use Rattle.std.proofs.lemmas.List.{append-nil, map-append}
-use Rattle.std.proofs.lemmas.List.Elements.{filter_agree}
+use Rattle.std.proofs.lemmas.List.Elements.{filter_agree, filter-append}
 use Rattle.hoare_law.specs.declared.event.Event.{Event}
 use Rattle.hoare_law.specs.declared.event.History.{History}
 use Rattle.hoare_law.specs.declared.event.Sizes.{Sizes}
 use Rattle.hoare_law.specs.declared.event.Event.TheVariants.{Admit, Signal, Pass, Leave, Resume, Back, Notify}
-use Rattle.hoare_law.specs.declared.event.Event.TheVariants.{Broadcast}
+use Rattle.hoare_law.specs.declared.event.Event.TheVariants.{Broadcast, SignalTo}
 use Rattle.hoare_law.specs.declared.turn.Turn.{Turn}
 use Rattle.hoare_law.specs.declared.turn.Turn.TheVariants.{Free, Held, Owed, Return}
 use Rattle.hoare_law.specs.Events.{opened, place_of, with_event}
 use Rattle.hoare_law.specs.Sizes.{IsHoare, IsMesa}
-use Rattle.hoare_law.specs.Waiting.{waiting, waits_on, takes, concerns, priority_of, chosen, Chooses}
+use Rattle.hoare_law.specs.Waiting.{waiting, waits_on, takes, concerns, priority_of, chosen, Chooses, wait_by}
+use Rattle.hoare_law.specs.Waiting.{IsWaiting}
 use Rattle.hoare_law.specs.Called.{called_by, called}
 use Rattle.hoare_law.specs.Turns.{urgent, turn, turn_by, outside, is_out, is_signal}
 use Rattle.hoare_law.specs.Priorities.{put_in, in_order, behind_first}
@@ -27,19 +28,23 @@ use Rattle.hoare_law.proofs.Waiting.{waiting-push}
 use Rattle.hoare_law.proofs.Called.{called-push}
 use Rattle.hoare_law.proofs.Calling.{called_by-notify}
 use Rattle.hoare_law.proofs.Turns.{urgent-push, turn-push, outside-push, filter-map}
-use Rattle.hoare_law.proofs.Held.{handing, concerns-own}
+use Rattle.hoare_law.proofs.Held.{handing, hand_of, concerns-own}
 use Rattle.hoare_law.proofs.Legal.{IsLegal-push, IsLegal-none}
 use Rattle.hoare_law.proofs.Filters.{filter-all, filter-filter, filter-or, list_all-filter_none, map-none}
-use Rattle.hoare_law.proofs.Sorted.{in_order-filter, in_order-push, put_in-map}
+use Rattle.hoare_law.proofs.Sorted.{in_order-filter, in_order-push, in_order-short, put_in-map, find-filter}
+use Rattle.hoare_law.proofs.Priorities.{IsWaiting-by, waiting-wait_by}
+use Rattle.hoare_law.proofs.Waiters.{waiting-once}
 use Rattle.hoare_law.proofs.Chosen as law
 use Rattle.hoare_law.proofs.Sorted as sorted
 use Rattle.hoare_law.proofs.Tests.{eq_swap}
 use Rattle.wait_book.specs.declared.waiter.Waiter.{Waiter}
 use Rattle.wait_book.specs.Contents.{Contents, IsOf, hoare_of, next_of, one, times, times_in, wait_of, waiters_on}
+use Rattle.wait_book.specs.Contents.{waits_of}
 use Rattle.wait_book.specs.declared.steps.Next.TheVariants as next
-use Rattle.wait_book.specs.Stepping.{after_broadcast, after_claim, after_notify, after_signal, after_pass, settled}
+use Rattle.wait_book.specs.Stepping.{after_broadcast, after_claim, after_notify, after_signal, after_signal_to}
+use Rattle.wait_book.specs.Stepping.{after_pass, settled}
 use Rattle.wait_book.specs.Insides.{IsCalledFirst, IsSound, chain_of}
-use Rattle.wait_book.specs.Queues.{PutsIn, TakesAll, TakesFirst}
+use Rattle.wait_book.specs.Queues.{PutsIn, TakesAll, Removes, IsFirst}
 use Rattle.wait_book.proofs.Times.{eq_self, one_at, one_same, one_apart, filter-apart, filter-others, list_all-apart}
 use Rattle.wait_book.proofs.Waiters.{on, places, key, times-taken, filter-taken, filter-taken_on}
 use Rattle.wait_book.proofs.Sound.{admitted, claimed, told, waited, left, resumed, returned, went_on, Enters, Holds}
@@ -355,10 +360,10 @@ unfolding chosen
 chosen-first_on b h c o = law.chosen-first priority_of (waiting c h.events) ∙ ap sorted.first_of (sym (o.waiters c))
 
 -- the waiter that is removed was chosen
-pub chosen-taken : (b : Contents) (h : Log) (c w : ℕ) (ws : List Waiter) → IsOf b h → (t : TakesFirst c b.waiters ws w)
-    → chosen c h.events ≡ Some (wait_of t.first)
-chosen-taken b h c w ws o t =
-    chosen-first_on b h c o ∙ ap (λ l. sorted.first_of (map wait_of l)) (filter-taken_on c b.waiters ws w t)
+pub chosen-taken : (b : Contents) (h : Log) (c w : ℕ) (ws : List Waiter) → IsOf b h → (t : Removes c b.waiters ws w)
+    → IsFirst c t.before → chosen c h.events ≡ Some (wait_of t.first)
+chosen-taken b h c w ws o t first =
+    chosen-first_on b h c o ∙ ap (λ l. sorted.first_of (map wait_of l)) (filter-taken_on c b.waiters ws w t first)
 
 -- if no process waits, none is chosen
 pub chosen-nobody : (b : Contents) (h : Log) (c : ℕ) → IsOf b h → waiters_on c b ≡ [] → chosen c h.events ≡ None
@@ -371,17 +376,86 @@ after_handing false = after_signal
 
 -- a signal or a pass hands the monitor off to the chosen waiter
 pub after_handing-some : {D : Type 0} (out : Bool) (h : Log) (k c w : ℕ) (e : Act) (s : D) → place_of e ≡ w
-    → after_handing out h k c (Some e) ≡ with_event h (without_data (handing out k c w s))
+    → after_handing out h k c (Some e) ≡ with_event h (without_data (handing (hand_of out) k c w s))
 after_handing-some true h k c w e s is = ap (λ j. with_event h (Pass k c j tt)) is
 after_handing-some false h k c w e s is = ap (λ j. with_event h (Signal k c j tt)) is
 
-chooses : (b : Contents) (h : Log) (c w : ℕ) (ws : List Waiter) → IsOf b h → TakesFirst c b.waiters ws w
-    → Chooses c h.events w
-unfolding Chooses
-chooses b h c w ws o t =
-    subst (λ (x : Option Act). IsSomeAnd x (λ e. place_of e ≡ w)) (sym (chosen-taken b h c w ws o t)) t.place
+-- the wait of w is the first of its waits in the book
+pub wait_by-is : (b : Contents) (h : Log) (c w : ℕ) → IsOf b h
+    → wait_by w c h.events ≡ sorted.first_of (map wait_of (waits_of w c b))
+unfolding wait_by
+wait_by-is b h c w o =
+    let test : Act → Bool = λ e. place_of e == w in
+    let short : length (filter test (waiting c h.events)) ≤ 1 =
+    subst (λ (l : List Act). length l ≤ 1)
+    (filter_agree (λ e. w == place_of e) test (λ e. eq_swap w (place_of e)) (waiting c h.events))
+    (waiting-once c w h.events) in
+    find-filter test (waiting c h.events)
+    ∙ ap sorted.first_of (sym (in_order-short priority_of (filter test (waiting c h.events)) short)
+    ∙ in_order-filter priority_of test (waiting c h.events)
+    ∙ ap (filter test) (sym (o.waiters c))
+    ∙ filter-map wait_of test (waiters_on c b))
 
-taken_in_range : (b : Contents) (c w : ℕ) (ws : List Waiter) → IsSound b → TakesFirst c b.waiters ws w
+-- a waiter that is removed is among the waits of its place
+pub waits_of-taken : (c w : ℕ) (old ws : List Waiter) → Removes c old ws w
+    → (x : Waiter) × (xs : List Waiter)
+    × (filter (λ (v : Waiter). v.place == w) (filter (on c) old) ≡ x ∷ xs)
+waits_of-taken c w old ws t = by (kept t.before) (is ∙ here)
+  where
+    named : Waiter → Bool
+    named v = v.place == w
+
+    kept : List Waiter → List Waiter
+    kept vs = filter named (filter (on c) vs)
+
+    is : kept old ≡ kept t.before ++ kept (t.first ∷ t.after)
+    is = ap kept t.was
+        ∙ ap (filter named) (filter-append (on c) t.before (t.first ∷ t.after))
+        ∙ filter-append named (filter (on c) t.before) (filter (on c) (t.first ∷ t.after))
+
+    here : kept t.before ++ kept (t.first ∷ t.after) ≡ kept t.before ++ t.first ∷ kept t.after
+    here =
+        let there : on c t.first ≡ true = ap (λ d. d == c) t.on ∙ eq_self c in
+        let it : named t.first ≡ true = ap (λ j. j == w) t.place ∙ eq_self w in
+        ap (λ l. kept t.before ++ l)
+        (ap (λ b. filter named (cond b (t.first ∷ filter (on c) t.after) (filter (on c) t.after))) there
+        ∙ ap (λ b. cond b (t.first ∷ kept t.after) (kept t.after)) it)
+
+    by : (vs : List Waiter) → kept old ≡ vs ++ t.first ∷ kept t.after
+        → (x : Waiter) × (xs : List Waiter) × (kept old ≡ x ∷ xs)
+    by [] e = (t.first, kept t.after, e)
+    by (v ∷ vs) e = (v, vs ++ t.first ∷ kept t.after, e)
+
+-- a signal to a place that doesn't wait there adds nothing
+pub after_signal_to-nobody : (b : Contents) (k c w : ℕ) (h : Log) → waits_of w c b ≡ [] → IsOf b h
+    → IsOf b (after_signal_to h k c w (wait_by w c h.events))
+after_signal_to-nobody b k c w h none o =
+    subst (λ (y : Option Act). IsOf b (after_signal_to h k c w y))
+    (sym (wait_by-is b h c w o ∙ ap (λ vs. sorted.first_of (map wait_of vs)) none)) o
+
+-- a place waits on a condition exactly if it has a wait in the book
+pub waits_of-waiting : (b : Contents) (h : Log) (c w : ℕ) → IsOf b h → IsWaiting c h.events w ↔ (waits_of w c b ≢ [])
+waits_of-waiting b h c w o = (
+  (λ waits none.
+      let r = waiting-wait_by c w h.events waits in
+      let no : None ≡ Some r.0 =
+      sym (wait_by-is b h c w o ∙ ap (λ vs. sorted.first_of (map wait_of vs)) none) ∙ r.1 in absurd (cc)),
+  λ some. by (waits_of w c b) refl some,
+)
+  where
+    by : (vs : List Waiter) → waits_of w c b ≡ vs → (waits_of w c b ≢ []) → IsWaiting c h.events w
+    by [] is some = absurd (some is)
+    by (v ∷ vs) is some =
+        IsWaiting-by c w h.events (wait_of v)
+        (wait_by-is b h c w o ∙ ap (λ l. sorted.first_of (map wait_of l)) is)
+
+chooses : (b : Contents) (h : Log) (c w : ℕ) (ws : List Waiter) → IsOf b h → (t : Removes c b.waiters ws w)
+    → IsFirst c t.before → Chooses c h.events w
+unfolding Chooses
+chooses b h c w ws o t first =
+    subst (λ (x : Option Act). IsSomeAnd x (λ e. place_of e ≡ w)) (sym (chosen-taken b h c w ws o t first)) t.place
+
+taken_in_range : (b : Contents) (c w : ℕ) (ws : List Waiter) → IsSound b → Removes c b.waiters ws w
     → w < b.sizes.places
 taken_in_range b c w ws s t = s.in_range w (omega (arith, times-taken w c b.waiters ws w t, one_same w))
 
@@ -405,24 +479,24 @@ module _ (b : Contents) (k c w : ℕ) (ws : List Waiter) (r : Resumes b k c w ws
   waiters_left = filter-taken k c b.waiters ws w r.took (holder_apart b k r.by).0 (omega (arith, r.by.sound.once w))
 
   -- k hands the monitor off to the resumed place, and is among the signallers unless the signal is its last act
-  handed_of : c < hoare_of b → (out : Bool)
+  handed_of : c < hoare_of b → IsFirst c r.took.before → (out : Bool)
       → IsOf (resumed ws (cond out b.signallers (b.signallers ++ k ∷ [])) w c b)
-      (with_event h (without_data (handing {S = Unit {0}} out k c w tt)))
-  handed_of l true =
+      (with_event h (without_data (handing {S = Unit {0}} (hand_of out) k c w tt)))
+  handed_of l first true =
       IsOf-push b (resumed ws b.signallers w c b) h (Pass k c w tt) o refl
       (record {
         in_range = ranges;
-        fits = (o.turn_is ∙ r.by.inside, chooses b h c w ws o r.took, hoare_fits b h c o l);
+        fits = (o.turn_is ∙ r.by.inside, chooses b h c w ws o r.took first, hoare_fits b h c o l);
       })
       (waiters_kept b h (Pass k c w tt) ws (λ d. refl) waiters_left o)
       (signallers_apart b k (holder_apart b k r.by).1) (called_apart b k (holder_apart b k r.by).2) refl
       (zero_is _ (omega (arith, passed_times b k c w k ws r l, r.by.sound.once k, one_same k)))
       (λ j q. omega (arith, passed_times b k c w j ws r l, one_apart j k (eq_swap j k ∙ q)))
-  handed_of l false =
+  handed_of l first false =
       IsOf-push b (resumed ws (b.signallers ++ k ∷ []) w c b) h (Signal k c w tt) o refl
       (record {
         in_range = ranges;
-        fits = (o.turn_is ∙ r.by.inside, chooses b h c w ws o r.took, hoare_fits b h c o l);
+        fits = (o.turn_is ∙ r.by.inside, chooses b h c w ws o r.took first, hoare_fits b h c o l);
       })
       (waiters_kept b h (Signal k c w tt) ws (λ d. refl) waiters_left o)
       (ap (λ l. l ++ k ∷ []) (filter-others k b.signallers (holder_apart b k r.by).1))
@@ -430,25 +504,58 @@ module _ (b : Contents) (k c w : ℕ) (ws : List Waiter) (r : Resumes b k c w ws
       (positive _ (omega (arith, signalled_times b k c w k ws r l, held_hand b k r.by.inside)))
       (λ j q. sym (signalled_times b k c w j ws r l))
 
+  -- k signals to w, and is among the signallers
+  named_of : c < hoare_of b → IsOf (resumed ws (b.signallers ++ k ∷ []) w c b) (with_event h (SignalTo k c w tt))
+  named_of l =
+      let x = waits_of-taken c w b.waiters ws r.took in
+      IsOf-push b (resumed ws (b.signallers ++ k ∷ []) w c b) h (SignalTo k c w tt) o refl
+      (record {
+        in_range = ranges;
+        fits = (
+          o.turn_is ∙ r.by.inside,
+          IsWaiting-by c w h.events (wait_of x.0)
+              (wait_by-is b h c w o ∙ ap (λ vs. sorted.first_of (map wait_of vs)) x.2),
+          hoare_fits b h c o l,
+        );
+      })
+      (waiters_kept b h (SignalTo k c w tt) ws (λ d. refl) waiters_left o)
+      (ap (λ l. l ++ k ∷ []) (filter-others k b.signallers (holder_apart b k r.by).1))
+      (called_apart b k (holder_apart b k r.by).2) refl
+      (positive _ (omega (arith, signalled_times b k c w k ws r l, held_hand b k r.by.inside)))
+      (λ j q. sym (signalled_times b k c w j ws r l))
+
+  -- what a signal to w adds if w is removed
+  pub after_signal_to-taken : c < hoare_of b
+      → IsOf (resumed ws (b.signallers ++ k ∷ []) w c b) (after_signal_to h k c w (wait_by w c h.events))
+  after_signal_to-taken l =
+      let x = waits_of-taken c w b.waiters ws r.took in
+      subst (IsOf _)
+      (sym (ap (after_signal_to h k c w)
+      (wait_by-is b h c w o ∙ ap (λ vs. sorted.first_of (map wait_of vs)) x.2)))
+      (named_of l)
+
   -- what a signal or a pass adds if a waiter is removed
-  pub after_handing-taken : c < hoare_of b → (out : Bool)
+  pub after_handing-taken : c < hoare_of b → IsFirst c r.took.before → (out : Bool)
       → IsOf (resumed ws (cond out b.signallers (b.signallers ++ k ∷ [])) w c b)
       (after_handing out h k c (chosen c h.events))
-  after_handing-taken l out = subst (IsOf _)
-      (sym (ap (after_handing out h k c) (chosen-taken b h c w ws o r.took)
+  after_handing-taken l first out = subst (IsOf _)
+      (sym (ap (after_handing out h k c) (chosen-taken b h c w ws o r.took first)
       ∙ after_handing-some out h k c w (wait_of r.took.first) tt r.took.place))
-      (handed_of l out)
+      (handed_of l first out)
 
   -- k notifies the waiter that it removes
-  notified_of : IsMesa b.sizes.conditions b.sizes.mesa c
+  notified_of : IsMesa b.sizes.conditions b.sizes.mesa c → IsFirst c r.took.before
       → IsOf (told ws (b.called ++ r.took.first ∷ []) b) (with_event h (Notify k c w tt))
-  notified_of m =
+  notified_of m first =
       let x : Act = wait_of r.took.first in
       let one : called_by h.events (Notify k c w tt) ≡ x ∷ [] =
       ap (λ j. called_by h.events (Notify k c j tt)) (sym r.took.place)
-      ∙ called_by-notify h.events k c x tt (chosen-taken b h c w ws o r.took) in
+      ∙ called_by-notify h.events k c x tt (chosen-taken b h c w ws o r.took first) in
       IsOf-push b (told ws (b.called ++ r.took.first ∷ []) b) h (Notify k c w tt) o refl
-      (record { in_range = ranges; fits = (o.turn_is ∙ r.by.inside, chooses b h c w ws o r.took, mesa_fits b h c o m) })
+      (record {
+        in_range = ranges;
+        fits = (o.turn_is ∙ r.by.inside, chooses b h c w ws o r.took first, mesa_fits b h c o m);
+      })
       (waiters_kept b h (Notify k c w tt) ws (λ d. refl) waiters_left o)
       (signallers_apart b k (holder_apart b k r.by).1)
       ((λ i. stay i ++ one i) ∙ sym (map-append wait_of b.called (r.took.first ∷ [])))
@@ -459,12 +566,12 @@ module _ (b : Contents) (k c w : ℕ) (ws : List Waiter) (r : Resumes b k c w ws
       stay : filter (λ x. not (k == place_of x)) (map wait_of b.called) ≡ map wait_of b.called
       stay = sym (append-nil _) ∙ called_apart b k (holder_apart b k r.by).2
 
-  pub after_notify-taken : IsMesa b.sizes.conditions b.sizes.mesa c
+  pub after_notify-taken : IsMesa b.sizes.conditions b.sizes.mesa c → IsFirst c r.took.before
       → IsOf (told ws (b.called ++ r.took.first ∷ []) b) (after_notify h k c (chosen c h.events))
-  after_notify-taken m = subst (IsOf _)
-      (sym (ap (after_notify h k c) (chosen-taken b h c w ws o r.took)
+  after_notify-taken m first = subst (IsOf _)
+      (sym (ap (after_notify h k c) (chosen-taken b h c w ws o r.took first)
       ∙ ap (λ j. with_event h (Notify k c j tt)) r.took.place))
-      (notified_of m)
+      (notified_of m first)
 
 -- if no process waits, a notify adds nothing
 pub after_notify-nobody : (b : Contents) (k c : ℕ) (h : Log) → waiters_on c b ≡ [] → IsOf b h

@@ -49,10 +49,18 @@ AreKept-put at bt c before after x m is on lists =
     AreKept-list at bt c (before ++ x ∷ after) m
     (λ l. with_one c before after x (on l) (subst (All (Waited c)) is (m c l))) lists
 
-pub AreKept-taken : (at bt : ℕ → List Link) (c : ℕ) (x : Link) (after : List Link) → AreKept at → at c ≡ x ∷ after
-    → ((d : ℕ) → bt d ≡ list_put c after at d) → AreKept bt
-AreKept-taken at bt c x after m is lists =
-    AreKept-list at bt c after m (λ l. All-tail (Waited c) x after (subst (All (Waited c)) is (m c l))) lists
+without_one : (c : ℕ) (before : List Link) (x : Link) (after : List Link) → All (Waited c) (before ++ x ∷ after)
+    → All (Waited c) (before ++ after)
+without_one c [] x after a = All-tail (Waited c) x after a
+without_one c (y ∷ before) x after a =
+    All-cons (Waited c) y (before ++ after) (All-head (Waited c) y (before ++ x ∷ after) a)
+    (without_one c before x after (All-tail (Waited c) y (before ++ x ∷ after) a))
+
+pub AreKept-taken : (at bt : ℕ → List Link) (c : ℕ) (before : List Link) (x : Link) (after : List Link) → AreKept at
+    → at c ≡ before ++ x ∷ after → ((d : ℕ) → bt d ≡ list_put c (before ++ after) at d) → AreKept bt
+AreKept-taken at bt c before x after m is lists =
+    AreKept-list at bt c (before ++ after) m
+    (λ l. without_one c before x after (subst (All (Waited c)) is (m c l))) lists
 
 -- the first link of chain c records c
 pub first_waits : (at : ℕ → List Link) (c : ℕ) (x : Link) (after : List Link) → AreKept at → c < MOST_CONDITIONS
@@ -64,7 +72,7 @@ pub AreKept-called : (at bt : ℕ → List Link) (c : ℕ) (x : Link) (xs after 
     → ((d : ℕ) → bt d ≡ list_put CALLED xs (list_put c after at) d) → AreKept bt
 AreKept-called at bt c x xs after m is lists =
     AreKept-list (list_put c after at) bt CALLED xs
-    (AreKept-taken at (list_put c after at) c x after m is (λ d. refl)) (λ l. absurd (omega arith)) lists
+    (AreKept-taken at (list_put c after at) c [] x after m is (λ d. refl)) (λ l. absurd (omega arith)) lists
 
 -- it holds after all links of chain c were moved to the end of the called
 pub AreKept-joined : (at bt : ℕ → List Link) (c : ℕ) (xs : List Link) → AreKept at

@@ -1,12 +1,14 @@
 -- The lists of the chains: what another list in one of them does to all.
 use Rattle.std.proofs.Common.{◌≡◌, ◌≢◌, ℕ, zero, suc, ◌+◌, ◌<◌, ◌≤◌, Bool, true, false, cond, eqb, eqb-true, List, []}
-use Rattle.std.proofs.Common.{◌∷◌, ◌++◌, length, map, refl, ap, ◌∙◌, arith}
+use Rattle.std.proofs.Common.{IsTrue, is_some, ◌∷◌, ◌++◌, length, map, Option, Some, None, refl, ap, sym, ◌∙◌, arith}
+use Rattle.std.specs.Prelude.{◌↔◌}
 use Rattle.std.proofs.lemmas.Bool.Decides.{nat_tests}
 use Rattle.std.proofs.lemmas.List.{length-append, length-map, map-append}
 use Rattle.wait_book.specs.declared.chains.Link.{Link}
 use Rattle.wait_book.specs.Contents.{one, times}
-use Rattle.wait_book.specs.Lists.{all_below, keys, list_put, places_in}
-use Rattle.wait_book.proofs.Times.{eq_self, times-append}
+use Rattle.wait_book.specs.Lists.{all_below, keys, keys_of, last_from, list_put, places_in}
+use Rattle.hoare_law.proofs.Tests.{eq_swap}
+use Rattle.wait_book.proofs.Times.{eq_self, one_apart, one_same, times-append}
 
 pub eq_apart : (d c : ℕ) → d ≢ c → eqb d c ≡ false
 eq_apart d c n = grind (arith, nat_tests)
@@ -130,3 +132,89 @@ keys_append k xs ys = ap (times k) (map-append (λ (x : Link). x.key) xs ys) ∙
 
 pub length_middle : (xs : List Link) (x : Link) (ys : List Link) → length (xs ++ x ∷ ys) ≡ suc (length (xs ++ ys))
 length_middle xs x ys = omega (arith, length-append xs (x ∷ ys), length-append xs ys)
+
+-- the first link of a place
+
+-- it has the key `key`, and is after the key `behind`, in a list after the key `start`
+pub record Stands (place : ℕ) (start : Option ℕ) (xs : List Link) (behind : Option ℕ) (key : ℕ) : Type 0 where
+  pub before : List Link
+  pub link : Link
+  pub after : List Link
+  pub is : xs ≡ before ++ link ∷ after
+  pub link_place : link.place ≡ place
+  pub none_before : times place (places_in before) ≡ 0
+  pub behind_is : behind ≡ last_from start before
+  pub key_is : link.key ≡ key
+
+place_apart : (place : ℕ) (x : Link) → eqb x.place place ≡ false → one place x.place ≡ 0
+place_apart place x e = one_apart place x.place (eq_swap place x.place ∙ e)
+
+pub stands : (place : ℕ) (start : Option ℕ) (xs : List Link) (behind : Option ℕ) (key : ℕ)
+    → keys_of place start xs ≡ Some (behind, key) → Stands place start xs behind key
+stands place start [] behind key e = absurd (cc)
+stands place start (x ∷ xs) behind key e = by (eqb x.place place) refl (stands place (Some x.key) xs behind key) e
+  where
+    by : (t : Bool) → eqb x.place place ≡ t
+        → (keys_of place (Some x.key) xs ≡ Some (behind, key) → Stands place (Some x.key) xs behind key)
+        → cond t (Some (start, x.key)) (keys_of place (Some x.key) xs) ≡ Some (behind, key)
+        → Stands place start (x ∷ xs) behind key
+    by true q r f =
+        let same : (start, x.key) ≡ (behind, key) = cc in
+        record {
+          before = [];
+          link = x;
+          after = xs;
+          is = refl;
+          link_place = eqb-true x.place place q;
+          none_before = refl;
+          behind_is = sym (ap (λ (p : Option ℕ × ℕ). p.0) same);
+          key_is = ap (λ (p : Option ℕ × ℕ). p.1) same;
+        }
+    by false q r f =
+        let s : Stands place (Some x.key) xs behind key = r f in
+        record {
+          before = x ∷ s.before;
+          link = s.link;
+          after = s.after;
+          is = ap (λ ys. x ∷ ys) s.is;
+          link_place = s.link_place;
+          none_before = omega (arith, s.none_before, place_apart place x q);
+          behind_is = s.behind_is;
+          key_is = s.key_is;
+        }
+
+-- no link of the list has the place if none was found
+pub stands_nowhere : (place : ℕ) (start : Option ℕ) (xs : List Link) → keys_of place start xs ≡ None
+    → times place (places_in xs) ≡ 0
+stands_nowhere place start [] e = refl
+stands_nowhere place start (x ∷ xs) e =
+    by (eqb x.place place) refl (stands_nowhere place (Some x.key) xs) e
+  where
+    by : (t : Bool) → eqb x.place place ≡ t
+        → (keys_of place (Some x.key) xs ≡ None → times place (places_in xs) ≡ 0)
+        → cond t (Some (start, x.key)) (keys_of place (Some x.key) xs) ≡ None
+        → one place x.place + times place (places_in xs) ≡ 0
+    by true q r f = absurd (cc)
+    by false q r f = omega (arith, r f, place_apart place x q)
+
+-- a link of the list has the place exactly if one was found
+pub stands_somewhere : (place : ℕ) (xs : List Link) (found : Option (Option ℕ × ℕ)) (r : Bool)
+    → found ≡ keys_of place None xs → r ≡ is_some found → IsTrue r ↔ (times place (places_in xs) ≢ 0)
+stands_somewhere place xs None r is told = (
+  (λ yes none. let no : true ≡ false = sym yes ∙ told in absurd (cc)),
+  (λ some. absurd (some (stands_nowhere place None xs (sym is)))),
+)
+stands_somewhere place xs (Some p) r is told =
+    let s : Stands place None xs p.0 p.1 = stands place None xs p.0 p.1 (sym is) in
+    let all : times place (places_in xs) ≡ times place (places_in (s.before ++ s.link ∷ s.after)) =
+    ap (λ ys. times place (places_in ys)) s.is in (
+      (λ yes none. absurd (omega (
+        arith,
+        none,
+        all,
+        places_middle place s.before s.link s.after,
+        ap (one place) s.link_place,
+        one_same place,
+      ))),
+      λ some. told,
+    )

@@ -90,24 +90,33 @@ AreMarked-put {s = s} {at = at} {bt = bt} c before after x m l within is apart l
           ];
     }
 
-module _ {s : List Bool} {at : ℕ → List Link} (c : ℕ) (x : Link) (after : List Link) (m : AreMarked s at)
-    (l : c < CHAINS) (is : at c ≡ x ∷ after) where
-  taken_times : (k : ℕ)
-      → times k (places_below CHAINS (list_put c after at)) + one k x.place ≡ times k (places_below CHAINS at)
-  taken_times k =
-      omega (arith, times_put (λ d (y : Link). y.place) k CHAINS c after at l, ap (λ v. times k (places_in v)) is)
+module _ {s : List Bool} {at : ℕ → List Link} (c : ℕ) (before : List Link) (x : Link) (after : List Link)
+    (m : AreMarked s at) (l : c < CHAINS) (is : at c ≡ before ++ x ∷ after) where
+  -- the list without the link
+  abbrev rest : List Link
+  rest = before ++ after
 
-  -- the place of the first of a list is below `MOST_PLACES`
-  pub first_within : x.place < MOST_PLACES
-  first_within =
+  taken_times : (k : ℕ)
+      → times k (places_below CHAINS (list_put c rest at)) + one k x.place ≡ times k (places_below CHAINS at)
+  taken_times k =
+      omega (
+        arith,
+        times_put (λ d (y : Link). y.place) k CHAINS c rest at l,
+        ap (λ v. times k (places_in v)) is,
+        places_middle k before x after,
+      )
+
+  -- the place of a link is below `MOST_PLACES`
+  pub place_within : x.place < MOST_PLACES
+  place_within =
       omega
       (arith, m.many, marked_within s x.place (omega (arith, taken_times x.place, one_same x.place, m.once x.place)))
 
-  -- the first of a list is removed
-  pub AreMarked-taken : {bt : ℕ → List Link} (p : ℕ) → x.place ≡ p → ((d : ℕ) → bt d ≡ list_put c after at d)
+  -- the link is removed
+  pub AreMarked-taken : {bt : ℕ → List Link} (p : ℕ) → x.place ≡ p → ((d : ℕ) → bt d ≡ list_put c rest at d)
       → AreMarked (set s p false) bt
   AreMarked-taken {bt = bt} p e lists =
-      let same : bt ≡ list_put c after at = λ i d. lists d i in
+      let same : bt ≡ list_put c rest at = λ i d. lists d i in
       let less : (k : ℕ) → times k (places_below CHAINS bt) + one k x.place ≡ times k (places_below CHAINS at) = λ k.
       omega (arith, ap (λ (v : ℕ → List Link). times k (places_below CHAINS v)) same, taken_times k) in
       let once : (k : ℕ) → times k (places_below CHAINS bt) ≡ marked (set s x.place false) k = λ k.
@@ -120,7 +129,7 @@ module _ {s : List Bool} {at : ℕ → List Link} (c : ℕ) (x : Link) (after : 
               one_same x.place,
               m.once x.place,
               marked_few s x.place,
-              marked-set s x.place false (omega (arith, first_within, m.many)),
+              marked-set s x.place false (omega (arith, place_within, m.many)),
             ) in
             subst (λ (j : ℕ). times j (places_below CHAINS bt) ≡ marked (set s x.place false) j) (sym q) h
         | inr n ↦ omega (
@@ -134,19 +143,19 @@ module _ {s : List Bool} {at : ℕ → List Link} (c : ℕ) (x : Link) (after : 
       subst (λ (j : ℕ). AreMarked (set s j false) bt) e
       (record { many = length-set s x.place false ∙ m.many; once = once })
 
-  -- the first of a list is moved to the end of the called
+  -- the link is moved to the end of the called
   pub AreMarked-called : {bt : ℕ → List Link} → c < CALLED
-      → ((d : ℕ) → bt d ≡ list_put CALLED (at CALLED ++ x ∷ []) (list_put c after at) d) → AreMarked s bt
+      → ((d : ℕ) → bt d ≡ list_put CALLED (at CALLED ++ x ∷ []) (list_put c rest at) d) → AreMarked s bt
   AreMarked-called {bt = bt} below lists =
-      let same : bt ≡ list_put CALLED (at CALLED ++ x ∷ []) (list_put c after at) = λ i d. lists d i in
+      let same : bt ≡ list_put CALLED (at CALLED ++ x ∷ []) (list_put c rest at) = λ i d. lists d i in
       record {
         many = m.many;
         once = λ k. omega (
           arith,
           ap (λ (v : ℕ → List Link). times k (places_below CHAINS v)) same,
-          times_put (λ d (y : Link). y.place) k CHAINS CALLED (at CALLED ++ x ∷ []) (list_put c after at) (omega arith),
+          times_put (λ d (y : Link). y.place) k CHAINS CALLED (at CALLED ++ x ∷ []) (list_put c rest at) (omega arith),
           places_append k (at CALLED) (x ∷ []),
-          ap (λ v. times k (places_in v)) (put_other c CALLED after at (omega arith)),
+          ap (λ v. times k (places_in v)) (put_other c CALLED rest at (omega arith)),
           taken_times k,
           m.once k,
         );

@@ -20,7 +20,7 @@ use Rattle.hoare_law.proofs.Tests.{eq_swap}
 use Rattle.wait_book.specs.declared.waiter.Waiter.{Waiter}
 use Rattle.wait_book.specs.Contents.{Contents, IsOf, priorities_on, wait_of, waiters_on}
 use Rattle.wait_book.specs.Insides.{IsSound}
-use Rattle.wait_book.specs.Queues.{PutsIn, TakesAll, TakesFirst}
+use Rattle.wait_book.specs.Queues.{PutsIn, TakesAll, Removes, IsFirst}
 use Rattle.wait_book.proofs.Waiters.{on, key, filter-taken_on, filter-taken_off}
 use Rattle.wait_book.proofs.Sound.{told, waited, resumed, Resumes, taken_ordered}
 use Rattle.wait_book.proofs.Histories.{chosen-first_on, chosen-nobody}
@@ -45,10 +45,10 @@ pub no_priority_on : {b d : Contents} (c : ℕ) → b ≡ d → waiters_on c b �
 no_priority_on {b = b} c e n = subst (λ (v : Contents). priorities_on v c ≡ []) e (priorities_on-nobody b c n)
 
 -- there are some if a waiter is removed
-pub priorities_on-taken : {b d : Contents} {k c w : ℕ} {ws : List Waiter} → Resumes b k c w ws → b ≡ d
-    → priorities_on d c ≢ []
-priorities_on-taken {b = b} {c = c} {w = w} {ws = ws} r e = λ none.
-    let a = filter-taken_on c b.waiters ws w r.took in
+pub priorities_on-taken : {b d : Contents} {k c w : ℕ} {ws : List Waiter} (r : Resumes b k c w ws)
+    → IsFirst c r.took.before → b ≡ d → priorities_on d c ≢ []
+priorities_on-taken {b = b} {c = c} {w = w} {ws = ws} r first e = λ none.
+    let a = filter-taken_on c b.waiters ws w r.took first in
     let n : waiters_on c b ≡ [] =
     priorities_on-none b c (r.by.sound.ordered c) (ap (λ (v : Contents). priorities_on v c) e ∙ none) in
     absurd (cc)
@@ -117,27 +117,28 @@ priorities_on-joined {b = b} w ws c p e s t =
     by true vs = map-put_in key w vs
     by false vs = refl
 
-taken_by : (t : Bool) (c d : ℕ) (b : Contents) (ws : List Waiter) (w : ℕ) → (d == c) ≡ t → TakesFirst c b.waiters ws w
+taken_by : (t : Bool) (c d : ℕ) (b : Contents) (ws : List Waiter) (w : ℕ) → (d == c) ≡ t
+    → (u : Removes c b.waiters ws w) → IsFirst c u.before
     → map key (filter (on d) ws) ≡ cond t (behind_first (map key (waiters_on d b))) (map key (waiters_on d b))
-taken_by true c d b ws w e t =
+taken_by true c d b ws w e t first =
     subst (λ (a : ℕ). map key (filter (on a) ws) ≡ behind_first (map key (waiters_on a b))) (sym (eqb-true d c e))
-    (sym (ap (λ l. behind_first (map key l)) (filter-taken_on c b.waiters ws w t)))
-taken_by false c d b ws w e t = ap (map key) (sym (filter-taken_off c d b.waiters ws w t (eq_swap c d ∙ e)))
+    (sym (ap (λ l. behind_first (map key l)) (filter-taken_on c b.waiters ws w t first)))
+taken_by false c d b ws w e t first = ap (map key) (sym (filter-taken_off c d b.waiters ws w t (eq_swap c d ∙ e)))
 
 -- a signal and a pass remove the first priority
-priorities_after : (b : Contents) (us : List ℕ) (k c w d : ℕ) (ws : List Waiter) → Resumes b k c w ws
-    → priorities_on (resumed ws us w c b) d ≡ taken (priorities_on b) c d
-priorities_after b us k c w d ws r =
+priorities_after : (b : Contents) (us : List ℕ) (k c w d : ℕ) (ws : List Waiter) (r : Resumes b k c w ws)
+    → IsFirst c r.took.before → priorities_on (resumed ws us w c b) d ≡ taken (priorities_on b) c d
+priorities_after b us k c w d ws r first =
     priorities_on-are (resumed ws us w c b) d (taken_ordered b k c w ws r d)
-    ∙ taken_by (d == c) c d b ws w refl r.took
+    ∙ taken_by (d == c) c d b ws w refl r.took first
     ∙ ap (λ l. cond (d == c) (behind_first l) l) (sym (priorities_on-are b d (r.by.sound.ordered d)))
 
 -- the same for an equal book
-pub priorities_on-after : {b e : Contents} {k c w : ℕ} {ws : List Waiter} (us : List ℕ) → b ≡ e → Resumes b k c w ws
-    → (d : ℕ)
+pub priorities_on-after : {b e : Contents} {k c w : ℕ} {ws : List Waiter} (us : List ℕ) → b ≡ e
+    → (r : Resumes b k c w ws) → IsFirst c r.took.before → (d : ℕ)
     → priorities_on (resumed ws us w c b) d ≡ taken (priorities_on e) c d
-priorities_on-after {b = b} {k = k} {c = c} {w = w} {ws = ws} us q r d =
-    priorities_after b us k c w d ws r ∙ ap (λ (v : Contents). taken (priorities_on v) c d) q
+priorities_on-after {b = b} {k = k} {c = c} {w = w} {ws = ws} us q r first d =
+    priorities_after b us k c w d ws r first ∙ ap (λ (v : Contents). taken (priorities_on v) c d) q
 
 -- if no process waits, they remove nothing
 pub priorities_on-untaken : {b d v : Contents} (c e : ℕ) (ps : List ℕ) → b ≡ d → NobodyWaits c b v

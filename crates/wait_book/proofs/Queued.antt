@@ -19,9 +19,10 @@ use Rattle.wait_book.specs.declared.chains.Link.{Link}
 use Rattle.wait_book.specs.declared.waiter.Waiter.{Waiter}
 use Rattle.wait_book.specs.Contents.{times}
 use Rattle.wait_book.specs.Insides.{called_in, waiter_of, waiter_on, waiting_below}
-use Rattle.wait_book.specs.Lists.{Lists, IsJoined, IsPut, IsTaken, all_below, first_link, higher, list_at, list_put}
+use Rattle.wait_book.specs.Lists.{Lists, IsJoined, IsPut, IsTaken, IsTakenOut, all_below, first_link, higher, list_at}
+use Rattle.wait_book.specs.Lists.{list_put}
 use Rattle.wait_book.specs.Lists.{lower, places_below, priorities, total, places_in}
-use Rattle.wait_book.specs.Queues.{PutsIn, TakesAll, TakesFirst}
+use Rattle.wait_book.specs.Queues.{PutsIn, TakesAll, Removes, IsFirst}
 use Rattle.wait_book.proofs.Times.{eq_self}
 use Rattle.wait_book.proofs.Waiters.{on, places, key}
 use Rattle.wait_book.proofs.Nodes.{lower-higher}
@@ -156,59 +157,90 @@ PutsIn-put c place priority old new l p =
           );
     }
 
--- the first is removed
+-- a waiter is removed
 
-pub taken_below : (n c : ℕ) (x : Link) (after : List Link) (at : ℕ → List Link) → c < n → at c ≡ x ∷ after
-    → TakesFirst c (waiting_below n at) (waiting_below n (list_put c after at)) x.place
+-- the waiter was removed, and before it on c stand those of the links bs
+abbrev TakenBelow : (n c : ℕ) → List Link → Link → List Link → (ℕ → List Link) → Type 0
+TakenBelow n c bs x after at =
+    (t : Removes c (waiting_below n at) (waiting_below n (list_put c (bs ++ after) at)) x.place)
+    × (filter (on c) t.before ≡ map (waiter_on c) bs)
+
+pub taken_below : (n c : ℕ) (bs : List Link) (x : Link) (after : List Link) (at : ℕ → List Link) → c < n
+    → at c ≡ bs ++ x ∷ after → TakenBelow n c bs x after at
 unfolding all_below
-taken_below zero c x after at l e = absurd (omega arith)
-taken_below (suc n) c x after at l e =
+taken_below zero c bs x after at l e = absurd (omega arith)
+taken_below (suc n) c bs x after at l e =
     elim (cases_eq n c) [
-      | inl q ↦ record {
-        before = waiting_below n at;
-        first = waiter_on c x;
-        after = map (waiter_on c) after;
-        was = ap (λ ws. waiting_below n at ++ ws)
-            (subst (λ (m : ℕ). map (waiter_on m) (at m) ≡ waiter_on c x ∷ map (waiter_on c) after) (sym q)
-            (ap (map (waiter_on c)) e));
-        is =
-            ap (λ ws. ws ++ map (waiter_on n) (list_put c after at n)) (below_past waiter_on n c after at (omega arith))
-            ∙ ap (λ ws. waiting_below n at ++ ws)
-            (subst (λ (m : ℕ). map (waiter_on m) (list_put c after at m) ≡ map (waiter_on c) after) (sym q)
-            (ap (map (waiter_on c)) (put_same c after at)));
-        none_before = on_before n c at (omega arith);
-        on = refl;
-        place = refl;
-      }
+      | inl q ↦
+          let ws : List Waiter = waiting_below n at in
+          let xs : List Waiter = map (waiter_on c) bs in (
+            record {
+              before = ws ++ xs;
+              first = waiter_on c x;
+              after = map (waiter_on c) after;
+              was = ap (λ ys. ws ++ ys)
+                  (subst (λ (m : ℕ). map (waiter_on m) (at m) ≡ xs ++ waiter_on c x ∷ map (waiter_on c) after) (sym q)
+                  (ap (map (waiter_on c)) e ∙ map-append (waiter_on c) bs (x ∷ after)))
+                  ∙ sym (append_assoc ws xs (waiter_on c x ∷ map (waiter_on c) after));
+              is =
+                  ap (λ ys. ys ++ map (waiter_on n) (list_put c (bs ++ after) at n))
+                  (below_past waiter_on n c (bs ++ after) at (omega arith))
+                  ∙ ap (λ ys. ws ++ ys)
+                  (subst (λ (m : ℕ). map (waiter_on m) (list_put c (bs ++ after) at m) ≡ xs ++ map (waiter_on c) after)
+                  (sym q)
+                  (ap (map (waiter_on c)) (put_same c (bs ++ after) at) ∙ map-append (waiter_on c) bs after))
+                  ∙ sym (append_assoc ws xs (map (waiter_on c) after));
+              on = refl;
+              place = refl;
+            },
+            filter-append (on c) ws xs ∙ ap (λ ys. ys ++ filter (on c) xs) (on_before n c at (omega arith))
+                ∙ on_own c bs,
+          )
       | inr off ↦
-          let t : TakesFirst c (waiting_below n at) (waiting_below n (list_put c after at)) x.place =
-          taken_below n c x after at (omega arith) e in
-          let more : List Waiter = map (waiter_on n) (at n) in
-          record {
-            before = t.before;
-            first = t.first;
-            after = t.after ++ more;
-            was = ap (λ ws. ws ++ more) t.was ∙ append_assoc t.before (t.first ∷ t.after) more;
-            is = ap (λ ys. waiting_below n (list_put c after at) ++ map (waiter_on n) ys) (put_other c n after at off)
-                ∙ ap (λ ws. ws ++ more) t.is ∙ append_assoc t.before t.after more;
-            none_before = t.none_before;
-            on = t.on;
-            place = t.place;
-          }
+          let r : TakenBelow n c bs x after at = taken_below n c bs x after at (omega arith) e in
+          let t = r.0 in
+          let more : List Waiter = map (waiter_on n) (at n) in (
+            record {
+              before = t.before;
+              first = t.first;
+              after = t.after ++ more;
+              was = ap (λ ws. ws ++ more) t.was ∙ append_assoc t.before (t.first ∷ t.after) more;
+              is = ap (λ ys. waiting_below n (list_put c (bs ++ after) at) ++ map (waiter_on n) ys)
+                  (put_other c n (bs ++ after) at off)
+                  ∙ ap (λ ws. ws ++ more) t.is ∙ append_assoc t.before t.after more;
+              on = t.on;
+              place = t.place;
+            },
+            r.1,
+          )
     ]
 
 -- what is removed from the chain of a condition is removed from the waiters
-pub TakesFirst-taken : (c place : ℕ) (old new : Lists) → c < MOST_CONDITIONS → IsTaken c place old new
-    → TakesFirst c (waiting_below MOST_CONDITIONS (list_at old)) (waiting_below MOST_CONDITIONS (list_at new)) place
-TakesFirst-taken c place old new l t =
-    let lists : list_at new ≡ list_put c t.after (list_at old) = λ i d. t.lists d i in
+taken_from : (c place : ℕ) (bs : List Link) (x : Link) (after : List Link) (old new : Lists) → c < MOST_CONDITIONS
+    → list_at old c ≡ bs ++ x ∷ after → x.place ≡ place
+    → ((d : ℕ) → list_at new d ≡ list_put c (bs ++ after) (list_at old) d)
+    → (t : Removes c (waiting_below MOST_CONDITIONS (list_at old)) (waiting_below MOST_CONDITIONS (list_at new)) place)
+    × (filter (on c) t.before ≡ map (waiter_on c) bs)
+taken_from c place bs x after old new l was named lists =
+    let all : list_at new ≡ list_put c (bs ++ after) (list_at old) = λ i d. lists d i in
     subst
-    (λ (at : ℕ → List Link). TakesFirst c (waiting_below MOST_CONDITIONS (list_at old))
-    (waiting_below MOST_CONDITIONS at) place)
-    (sym lists)
-    (subst (λ (j : ℕ). TakesFirst c (waiting_below MOST_CONDITIONS (list_at old))
-    (waiting_below MOST_CONDITIONS (list_put c t.after (list_at old))) j) t.first_place
-    (taken_below MOST_CONDITIONS c t.first t.after (list_at old) l t.was))
+    (λ (at : ℕ → List Link). (t : Removes c (waiting_below MOST_CONDITIONS (list_at old))
+    (waiting_below MOST_CONDITIONS at) place) × (filter (on c) t.before ≡ map (waiter_on c) bs))
+    (sym all)
+    (subst (λ (j : ℕ). (t : Removes c (waiting_below MOST_CONDITIONS (list_at old))
+    (waiting_below MOST_CONDITIONS (list_put c (bs ++ after) (list_at old))) j)
+    × (filter (on c) t.before ≡ map (waiter_on c) bs)) named
+    (taken_below MOST_CONDITIONS c bs x after (list_at old) l was))
+
+pub Removes-first : (c place : ℕ) (old new : Lists) → c < MOST_CONDITIONS → IsTaken c place old new
+    → (t : Removes c (waiting_below MOST_CONDITIONS (list_at old)) (waiting_below MOST_CONDITIONS (list_at new)) place)
+    × IsFirst c t.before
+Removes-first c place old new l t = taken_from c place [] t.first t.after old new l t.was t.first_place t.lists
+
+pub Removes-taken : (c place : ℕ) (old new : Lists) → c < MOST_CONDITIONS → IsTakenOut c place old new
+    → Removes c (waiting_below MOST_CONDITIONS (list_at old)) (waiting_below MOST_CONDITIONS (list_at new)) place
+Removes-taken c place old new l t =
+    (taken_from c place t.before t.link t.after old new l t.was t.link_place t.lists).0
 
 -- no process waits on a condition whose chain is empty
 pub waits-nobody : (c : ℕ) (v : Lists) → c < MOST_CONDITIONS → list_at v c ≡ []

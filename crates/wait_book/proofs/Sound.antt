@@ -23,7 +23,7 @@ use Rattle.wait_book.specs.Contents.{Contents, SameSizes, hoare_of, next_of, one
 use Rattle.wait_book.specs.Contents.{wait_of, waiters_on}
 use Rattle.wait_book.specs.declared.steps.Next.TheVariants as next
 use Rattle.wait_book.specs.Insides.{IsCalledFirst, IsSound, IsTurnBeside, chain_of}
-use Rattle.wait_book.specs.Queues.{PutsIn, TakesAll, TakesFirst}
+use Rattle.wait_book.specs.Queues.{PutsIn, TakesAll, Removes}
 use Rattle.wait_book.proofs.Times.{one_same, one_apart, one_le, times-append, few_once}
 use Rattle.wait_book.proofs.Waiters.{on, places, key, times-places, times-taken, filter-taken, filter-taken_off}
 
@@ -218,11 +218,11 @@ holds e s h = record { sound = s; inside = ap (λ (v : Contents). v.turn) e ∙ 
 pub record Resumes (b : Contents) (k c w : ℕ) (ws : List Waiter) : Type 0 where
   pub by : Holds b k
   pub fits : c < b.sizes.conditions
-  pub took : TakesFirst c b.waiters ws w
+  pub took : Removes c b.waiters ws w
 
 -- it follows from what a call requires, and from the removal of the first
 abbrev pub resumes : {b d : Contents} {k c w : ℕ} {ws : List Waiter} → b ≡ d → IsSound b → d.turn ≡ Held k
-    → c < d.sizes.conditions → TakesFirst c b.waiters ws w → Resumes b k c w ws
+    → c < d.sizes.conditions → Removes c b.waiters ws w → Resumes b k c w ws
 resumes {b = b} {c = c} e s h l t = record { by = holds e s h; fits = same_condition b _ c e l; took = t }
 
 -- the place inside is in no list

@@ -8,7 +8,7 @@ use Rattle.std.proofs.lemmas.List.Elements.{filter-append}
 use Rattle.hoare_law.proofs.Filters.{filter-or}
 use Rattle.wait_book.specs.declared.waiter.Waiter.{Waiter}
 use Rattle.wait_book.specs.Contents.{one, times}
-use Rattle.wait_book.specs.Queues.{TakesFirst}
+use Rattle.wait_book.specs.Queues.{Removes, IsFirst}
 use Rattle.wait_book.proofs.Times.{eq_self, one_same, times-append, list_all-apart, filter-apart}
 
 -- the waiter is on c
@@ -25,22 +25,22 @@ key = λ (w : Waiter). w.priority
 
 -- what was removed, by condition
 
--- the waiters on c were the removed waiter and those that remain
-pub filter-taken_on : (c : ℕ) (old new : List Waiter) (k : ℕ) (t : TakesFirst c old new k)
+-- if the first was removed, the waiters on c were that waiter and those that remain
+pub filter-taken_on : (c : ℕ) (old new : List Waiter) (k : ℕ) (t : Removes c old new k) → IsFirst c t.before
     → filter (on c) old ≡ t.first ∷ filter (on c) new
-filter-taken_on c old new k t =
+filter-taken_on c old new k t none_before =
     let here : on c t.first ≡ true = ap (λ d. d == c) t.on ∙ eq_self c in
     let cut : filter (on c) (t.first ∷ t.after) ≡ t.first ∷ filter (on c) t.after = (rw here refl) in
     let left : filter (on c) old ≡ t.first ∷ filter (on c) t.after =
     ap (filter (on c)) t.was ∙ filter-append (on c) t.before (t.first ∷ t.after)
-    ∙ ap (λ l. l ++ filter (on c) (t.first ∷ t.after)) t.none_before ∙ cut in
+    ∙ ap (λ l. l ++ filter (on c) (t.first ∷ t.after)) none_before ∙ cut in
     let right : filter (on c) new ≡ filter (on c) t.after =
     ap (filter (on c)) t.is ∙ filter-append (on c) t.before t.after
-    ∙ ap (λ l. l ++ filter (on c) t.after) t.none_before in
+    ∙ ap (λ l. l ++ filter (on c) t.after) none_before in
     left ∙ ap (λ l. t.first ∷ l) (sym right)
 
 -- the waiters on another condition remain
-pub filter-taken_off : (c d : ℕ) (old new : List Waiter) (k : ℕ) → TakesFirst c old new k → (c == d) ≡ false
+pub filter-taken_off : (c d : ℕ) (old new : List Waiter) (k : ℕ) → Removes c old new k → (c == d) ≡ false
     → filter (on d) old ≡ filter (on d) new
 filter-taken_off c d old new k t apart =
     let there : on d t.first ≡ false = ap (λ e. e == d) t.on ∙ apart in
@@ -50,7 +50,7 @@ filter-taken_off c d old new k t apart =
     ∙ sym (ap (filter (on d)) t.is ∙ filter-append (on d) t.before t.after)
 
 -- the list is one shorter
-pub length-taken : (c : ℕ) (old new : List Waiter) (k : ℕ) → TakesFirst c old new k → length old ≡ suc (length new)
+pub length-taken : (c : ℕ) (old new : List Waiter) (k : ℕ) → Removes c old new k → length old ≡ suc (length new)
 length-taken c old new k t =
     omega
     (arith, ap length t.was, ap length t.is, length-append t.before (t.first ∷ t.after), length-append t.before t.after)
@@ -64,7 +64,7 @@ times-places j xs ys =
     ap (times j) (map-append (λ (w : Waiter). w.place) xs ys) ∙ times-append j (places xs) (places ys)
 
 -- the place of the removed waiter is in the list once less
-pub times-taken : (j c : ℕ) (old new : List Waiter) (k : ℕ) → TakesFirst c old new k
+pub times-taken : (j c : ℕ) (old new : List Waiter) (k : ℕ) → Removes c old new k
     → times j (places old) ≡ times j (places new) + one j k
 times-taken j c old new k t =
     let a : times j (places old) ≡ times j (places (t.before ++ t.first ∷ t.after)) =
@@ -86,7 +86,7 @@ or_true true b h = refl
 or_true false b h = rw h refl
 
 -- if k isn't among the waiters and the removed place w is once, the filter that k and w fail removes only w
-pub filter-taken : (k c : ℕ) (old new : List Waiter) (w : ℕ) → TakesFirst c old new w → times k (places old) ≡ 0
+pub filter-taken : (k c : ℕ) (old new : List Waiter) (w : ℕ) → Removes c old new w → times k (places old) ≡ 0
     → times w (places old) ≤ 1
     → filter (λ (v : Waiter). not (eqb k v.place || eqb w v.place)) old ≡ new
 filter-taken k c old new w t y z =

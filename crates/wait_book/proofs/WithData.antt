@@ -5,22 +5,22 @@ use Rattle.std.specs.Option.{option_map}
 use Rattle.hoare_law.specs.declared.event.Event.{Event}
 use Rattle.hoare_law.specs.declared.event.History.{History}
 use Rattle.hoare_law.specs.declared.turn.Turn.{Turn}
-use Rattle.hoare_law.specs.declared.event.Event.TheVariants.{Notify, Broadcast}
+use Rattle.hoare_law.specs.declared.event.Event.TheVariants.{Notify, Broadcast, SignalTo}
 use Rattle.hoare_law.specs.Internal.WithoutData.{dataless, without_data}
 use Rattle.hoare_law.specs.Events.{place_of, with_event}
 use Rattle.hoare_law.specs.Priorities.{in_order, priorities}
 use Rattle.hoare_law.specs.Turns.{turn, outside}
-use Rattle.hoare_law.specs.Waiting.{priority_of, waiting, chosen}
+use Rattle.hoare_law.specs.Waiting.{priority_of, waiting, chosen, wait_by}
 use Rattle.hoare_law.proofs.WithoutData.{turn-dataless, outside-dataless, priorities-dataless, dataless-push}
-use Rattle.hoare_law.proofs.WithoutData.{chosen-dataless}
+use Rattle.hoare_law.proofs.WithoutData.{chosen-dataless, wait_by-dataless}
 use Rattle.hoare_law.proofs.WithoutData.{place_of-dataless, priority_of-dataless, waiting-dataless}
-use Rattle.hoare_law.proofs.Held.{handing}
+use Rattle.hoare_law.proofs.Held.{handing, hand_of}
 use Rattle.hoare_law.proofs.Priorities.{waiting-no_priority, priorities-nobody}
 use Rattle.hoare_law.proofs.Sorted.{in_order-in_order, map-in_order}
 use Rattle.wait_book.specs.declared.waiter.Waiter.{Waiter}
 use Rattle.wait_book.specs.declared.steps.Next.{Next}
 use Rattle.wait_book.specs.Contents.{Contents, IsOf, next_of, priorities_on, times_in, wait_of, waiters_on}
-use Rattle.wait_book.specs.Stepping.{after_broadcast, after_claim, after_notify, settled}
+use Rattle.wait_book.specs.Stepping.{after_broadcast, after_claim, after_notify, after_signal_to, settled}
 use Rattle.wait_book.proofs.Histories.{after_handing, after_handing-some}
 
 priorities_of : (ws : List Waiter) → map priority_of (map wait_of ws) ≡ map (λ (w : Waiter). w.priority) ws
@@ -76,10 +76,17 @@ module _ {D : Type 0} where
   pub IsOf-handing : (out : Bool) (b : Contents) (h : History D) (k c : ℕ) (x : Event D) (s : D)
       → chosen c h.events ≡ Some x
       → IsOf b (after_handing out (dataless h) k c (chosen c (dataless h).events))
-      → IsOf b (dataless (with_event h (handing out k c (place_of x) s)))
-  IsOf-handing out b h k c x s is o = IsOf-event b h (handing out k c (place_of x) s) (subst (IsOf b)
+      → IsOf b (dataless (with_event h (handing (hand_of out) k c (place_of x) s)))
+  IsOf-handing out b h k c x s is o = IsOf-event b h (handing (hand_of out) k c (place_of x) s) (subst (IsOf b)
       (ap (after_handing out (dataless h) k c) (chosen-dataless c h.events ∙ ap (option_map without_data) is)
       ∙ after_handing-some out (dataless h) k c (place_of x) (without_data x) s (place_of-dataless x)) o)
+
+  -- the same for a signal to a place
+  pub IsOf-signal_to : (b : Contents) (h : History D) (k c w : ℕ) (x : Event D) (s : D) → wait_by w c h.events ≡ Some x
+      → IsOf b (after_signal_to (dataless h) k c w (wait_by w c (dataless h).events))
+      → IsOf b (dataless (with_event h (SignalTo k c w s)))
+  IsOf-signal_to b h k c w x s is o = IsOf-event b h (SignalTo k c w s) (subst (IsOf b)
+      (ap (after_signal_to (dataless h) k c w) (wait_by-dataless w c h.events ∙ ap (option_map without_data) is)) o)
 
   -- the same for a notify
   pub IsOf-notify : (b : Contents) (h : History D) (k c : ℕ) (x : Event D) (s : D) → chosen c h.events ≡ Some x

@@ -37,12 +37,12 @@ chain_at chains c = slice_index_or chains c empty
 abbrev pub held : Slab Node → ℕ → ℕ
 held s k = if is_some (get s k) then 1 else 0
 
--- the key was put after the key `behind` in a chain that begins with `first`, or before all if `behind` is None. The
--- chain then begins with `first2`, and its nodes up to that of `behind` lead to the key. No other node changed
-pub record IsKeyPut (first behind : Option ℕ) (key : ℕ) (first2 : Option ℕ) (old new : Slab Node) : Type 0 where
+-- the key `next` was put after the key `behind` in a chain that begins with `first`, or before all if `behind` is None.
+-- The chain then begins with `first2`, and its nodes up to that of `behind` lead to `next`. No other node changed
+pub record IsKeyPut (first behind next first2 : Option ℕ) (old new : Slab Node) : Type 0 where
   pub linked : (before : List Link) (to : Option ℕ) → IsLinked old first before to → behind ≡ last_key before
       → ((k : ℕ) → times k (keys before) ≤ 1)
-      → IsLinked new first2 before (Some key)
+      → IsLinked new first2 before next
   pub others : (k : ℕ) → behind ≢ Some k → get new k ≡ get old k
   pub held_on : (k : ℕ) → held new k ≡ held old k
   pub as_long : slab_len new ≡ slab_len old

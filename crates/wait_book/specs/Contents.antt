@@ -13,7 +13,6 @@ use Rattle.hoare_law.specs.Called.{called}
 use Rattle.hoare_law.specs.Turns.{urgent, turn, outside}
 use Rattle.hoare_law.specs.Priorities.{in_order}
 use Rattle.hoare_law.specs.Legal.{IsLegal}
-use Rattle.wait_book.specs.declared.book.TheConstants.{MOST_CONDITIONS}
 use Rattle.wait_book.specs.declared.waiter.Waiter.{Waiter}
 use Rattle.wait_book.specs.declared.steps.Next.{Next}
 use Rattle.wait_book.specs.declared.steps.Next.TheVariants as next
@@ -40,6 +39,10 @@ SameSizes old new =
 -- the waiters on c, in the order in which signals would resume them
 abbrev pub waiters_on : ℕ → Contents → List Waiter
 waiters_on c b = filter (λ w. w.condition == c) b.waiters
+
+-- the waiters on c whose place is w: one, if w waits there, or none
+abbrev pub waits_of : ℕ → ℕ → Contents → List Waiter
+waits_of w c b = filter (λ (v : Waiter). v.place == w) (waiters_on c b)
 
 -- the waiting priorities of c
 abbrev pub priorities_on : Contents → ℕ → List ℕ

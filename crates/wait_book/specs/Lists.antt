@@ -3,6 +3,7 @@ use Rattle.std.specs.Prelude.{ℕ, zero, suc, ◌≡◌, ◌==◌, All, Bool, tr
 use Rattle.std.specs.Prelude.{◌++◌, map, length, Option, Some, None, slice_index_or}
 use Rattle.wait_book.specs.declared.chains.TheConstants.{CALLED, CHAINS}
 use Rattle.wait_book.specs.declared.chains.Link.{Link}
+use Rattle.wait_book.specs.Contents.{times}
 
 -- the number of nodes for which there is memory, and the links in each chain, from the first on
 pub record Lists : Type 0 where
@@ -56,6 +57,12 @@ last_from k (x ∷ xs) = last_from (Some x.key) xs
 abbrev pub last_key : List Link → Option ℕ
 last_key xs = last_from None xs
 
+-- the key of the link before the first link of the place, or `behind` if no link is before it, and its own key; None if
+-- no link has the place
+abbrev pub keys_of : ℕ → Option ℕ → List Link → Option (Option ℕ × ℕ)
+keys_of place behind [] = None
+keys_of place behind (x ∷ xs) = if x.place == place then Some (behind, x.key) else keys_of place (Some x.key) xs
+
 -- the links before the first whose priority is above p
 abbrev pub lower : ℕ → List Link → List Link
 lower p [] = []
@@ -86,6 +93,23 @@ pub record IsTaken (c place : ℕ) (old new : Lists) : Type 0 where
   pub first_place : first.place ≡ place
   pub lists : (d : ℕ) → list_at new d ≡ list_put c after (list_at old) d
   pub room : new.room ≡ old.room
+
+-- the link of the place was removed from chain c, from between the links `before`, of which none has the place, and the
+-- links `after`
+pub record IsTakenOut (c place : ℕ) (old new : Lists) : Type 0 where
+  pub before : List Link
+  pub link : Link
+  pub after : List Link
+  pub was : list_at old c ≡ before ++ link ∷ after
+  pub link_place : link.place ≡ place
+  pub none_before : times place (places_in before) ≡ 0
+  pub lists : (d : ℕ) → list_at new d ≡ list_put c (before ++ after) (list_at old) d
+  pub room : new.room ≡ old.room
+
+-- it was removed so (true), or the place isn't in chain c and nothing changed (false)
+abbrev pub TakesOut : Bool → ℕ → ℕ → Lists → Lists → Type 0
+TakesOut true c place old new = IsTakenOut c place old new
+TakesOut false c place old new = (times place (places_in (list_at old c)) ≡ 0) × (new ≡ old)
 
 -- the first link in the chain of condition c was moved to the end of the chain of the called, and has the node that it
 -- had

@@ -14,16 +14,19 @@ pub record PutsIn (w : Waiter) (old new : List Waiter) : Type 0 where
   pub more : (k : ℕ)
       → times k (map (λ (v : Waiter). v.place) new) ≡ times k (map (λ (v : Waiter). v.place) old) + one k w.place
 
--- the first waiter on c, whose place is k, was removed from the list
-pub record TakesFirst (c : ℕ) (old new : List Waiter) (k : ℕ) : Type 0 where
+-- a waiter on c, whose place is k, was removed from the list
+pub record Removes (c : ℕ) (old new : List Waiter) (k : ℕ) : Type 0 where
   pub before : List Waiter
   pub first : Waiter
   pub after : List Waiter
   pub was : old ≡ before ++ first ∷ after
   pub is : new ≡ before ++ after
-  pub none_before : filter (λ w. w.condition == c) before ≡ []
   pub on : first.condition ≡ c
   pub place : first.place ≡ k
+
+-- it was the first of the waiters on c
+abbrev pub IsFirst : (c : ℕ) → List Waiter → Type 0
+IsFirst c before = filter (λ (w : Waiter). w.condition == c) before ≡ []
 
 -- all waiters on c were removed from the list, and the others are as they were
 pub record TakesAll (c : ℕ) (old new : List Waiter) : Type 0 where

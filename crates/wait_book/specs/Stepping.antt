@@ -76,6 +76,11 @@ abbrev pub after_signal : History (Unit {0}) → ℕ → ℕ → Option (Event (
 after_signal h k c None = h
 after_signal h k c (Some e) = with_event h (event.Signal k c (place_of e) tt)
 
+-- a signal to place w, whose wait is e, resumes w; if w doesn't wait there it adds nothing
+abbrev pub after_signal_to : History (Unit {0}) → ℕ → ℕ → ℕ → Option (Event (Unit {0})) → History (Unit {0})
+after_signal_to h k c w None = h
+after_signal_to h k c w (Some e) = with_event h (event.SignalTo k c w tt)
+
 -- a pass resumes the chosen waiter, whose wait is e; if no process waits it is a leave
 abbrev pub after_pass : History (Unit {0}) → ℕ → ℕ → Option (Event (Unit {0})) → History (Unit {0})
 after_pass h k c None = with_event h (event.Leave k tt)

@@ -60,14 +60,16 @@ impl Book {
     ghost use Rattle.hoare_law.specs.declared.event.Event.TheVariants as event;
     ghost use Rattle.hoare_law.specs.declared.turn.Turn.TheVariants as turns;
     ghost use Rattle.hoare_law.specs.Events.{opened, with_event};
-    ghost use Rattle.hoare_law.specs.Waiting.{waiting, chosen, priority_of};
+    ghost use Rattle.hoare_law.specs.Waiting.{waiting, chosen, priority_of, wait_by, IsWaiting};
     ghost use Rattle.hoare_law.specs.Turns.{turn, outside};
     ghost use Rattle.hoare_law.specs.Sizes.{IsHoare, IsMesa, sizes_of};
     ghost use Rattle.hoare_law.specs.Priorities.{joined, taken, emptied};
     ghost use Rattle.wait_book.specs.Contents.{IsOf, IsPlaceBelow, SameSizes, make_refusal, next_of, priorities_on};
+    ghost use Rattle.wait_book.specs.Contents.{waits_of};
     ghost use Rattle.wait_book.specs.Contents.{times, times_in};
     ghost use Rattle.wait_book.specs.Numbers.{notified_position};
     ghost use Rattle.wait_book.specs.Stepping.{IsSettled, after_broadcast, after_notify, after_pass, after_signal};
+    ghost use Rattle.wait_book.specs.Stepping.{after_signal_to};
     ghost use Rattle.wait_book.specs.Stepping.{after_step, refusal_of, settled};
 
     /// Creates a book of 1 to 64 places and 1 to 8 conditions, of which the last `mesa` are Mesa conditions. Its
@@ -182,6 +184,16 @@ impl Book {
         first_priority(&self.chains, condition)
     }
 
+    /// Returns true if `place` waits on `condition`.
+    pub fn has_waiter(&self, condition: usize, place: usize) -> bool
+        requires { condition < self.now.sizes.conditions }
+        ensures lists { IsTrue result ↔ (waits_of place condition self.now ≢ []) }
+        ensures of { (h : History (Unit {0})) → IsOf self.now h
+            → (IsTrue result ↔ IsWaiting condition h.events place) }
+    {
+        self.chains.has(condition, place)
+    }
+
     /// Returns the number of `place` among the processes that were notified and haven't resumed yet: 1 if it resumes
     /// first, 0 if it isn't among them.
     pub fn notified_position(&self, place: usize) -> usize
@@ -282,6 +294,29 @@ impl Book {
         };
         self.chains.append(SIGNALLERS, place, condition, 0);
         self.turn = Turn::Owed(resumed, condition);
+        self.now()
+    }
+
+    /// Lets `place`, which is inside, signal to the place `waiter` on `condition`, one of Hoare's. If that place waits
+    /// there, whoever else waits, the monitor is handed to it, and `place` is held up as a signaller. Returns `For` of
+    /// `waiter`. If it doesn't wait there, changes nothing and returns `Held(place)`.
+    #[inline(never)] // apart, so that the other steps stay small
+    pub fn signal_to(&mut self, place: usize, condition: usize, waiter: usize) -> Next
+        requires inside { self.old.turn ≡ turns.Held place }
+        requires hoare { IsHoare self.old.sizes.conditions self.old.sizes.mesa condition }
+        ensures of { (h : History (Unit {0})) → IsOf self.old h
+            → IsOf self.new (after_signal_to h place condition waiter (wait_by waiter condition h.events)) }
+        ensures next { result ≡ next_of self.new.turn }
+        ensures none { waits_of waiter condition self.old ≡ [] → self.new ≡ self.old }
+        ensures some { waits_of waiter condition self.old ≢ [] → self.new.turn ≡ turns.Owed waiter condition }
+        ensures answered { IsPlaceBelow self.new.sizes.places result }
+        ensures sizes { SameSizes self.old self.new }
+    {
+        if !self.chains.take(condition, waiter) {
+            return self.now();
+        }
+        self.chains.append(SIGNALLERS, place, condition, 0);
+        self.turn = Turn::Owed(waiter, condition);
         self.now()
     }
 

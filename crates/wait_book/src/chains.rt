@@ -1,13 +1,14 @@
 //! The chains of a book: the waiters on each condition, the waiting signallers, and the notified processes. The nodes
 //! of all chains are in one slab, and each holds the key of the next node.
-ghost use Rattle.std.specs.Prelude.{◌≡◌, ◌<◌, ◌≤◌, ◌==◌, ℕ, [], ◌++◌, List, Option, Some, None, is_some};
+ghost use Rattle.std.specs.Prelude.{◌≡◌, ◌<◌, ◌≤◌, ◌==◌, ℕ, [], ◌∷◌, ◌++◌, List, Option, Some, None, is_some};
+ghost use Rattle.std.specs.Prelude.{◌≢◌, ◌↔◌, IsTrue};
 ghost use Rattle.std.specs.Prelude.{if◌then◌else◌, not, IfOk, IfSome, MatchOption};
 ghost use Rattle.std.specs.List.Sorted.{IsNonDecreasing};
 ghost use Rattle.slab.specs.Slab.{ContainsKey};
 ghost use Rattle.wait_book.specs.declared.chains.Link.{Link};
 ghost use Rattle.wait_book.specs.Contents.{times};
-ghost use Rattle.wait_book.specs.Lists.{CallsFirst, IsJoined, IsPut, IsTaken, first_link, higher, last_key};
-ghost use Rattle.wait_book.specs.Lists.{list_at, lower, places_below, priorities, total};
+ghost use Rattle.wait_book.specs.Lists.{CallsFirst, IsJoined, IsPut, IsTaken, TakesOut, first_link, higher, keys_of};
+ghost use Rattle.wait_book.specs.Lists.{last_key, list_at, list_put, lower, places_below, places_in, priorities, total};
 ghost use Rattle.wait_book.specs.Chains.{IsKeyPut, IsLinked};
 
 mod links;
@@ -90,18 +91,23 @@ fn next_of(nodes: &Slab<Node>, first: Option<u8>, behind: Option<u8>) -> Option<
     }
 }
 
-// Makes `key` follow the node `behind`. If `behind` is `None`, makes it the first key, and changes no node. Returns the
-// key of the first node after that.
-fn set_next(nodes: &mut Slab<Node>, first: Option<u8>, behind: Option<u8>, key: u8) -> Option<u8>
+// Makes `next` follow the node `behind`; if `next` is `None`, the chain ends there. If `behind` is `None`, makes `next`
+// the first key, and changes no node. Returns the key of the first node after that.
+fn set_next(
+    nodes: &mut Slab<Node>,
+    first: Option<u8>,
+    behind: Option<u8>,
+    next: Option<u8>,
+) -> Option<u8>
     requires { IfSome behind (ContainsKey nodes.old) }
-    ensures { IsKeyPut first behind key result nodes.old nodes.new }
+    ensures { IsKeyPut first behind next result nodes.old nodes.new }
 {
     match behind {
         Some(before) => {
-            nodes[before as usize].next = Some(key);
+            nodes[before as usize].next = next;
             first
         }
-        None => Some(key),
+        None => next,
     }
 }
 
@@ -239,7 +245,7 @@ impl Chains {
         };
         let key = self.nodes.insert_reserved(node);
         let key = key as u8;
-        let first = set_next(&mut self.nodes, first, behind, key);
+        let first = set_next(&mut self.nodes, first, behind, Some(key));
         let last = last_after(next, last, Some(key));
         self.chains[chain] = Chain { first, last };
         self.standing[place] = true;
@@ -292,6 +298,61 @@ impl Chains {
         Some(place)
     }
 
+    /// Returns true if `place` is in `chain`. Walks the chain from the first, up to that link.
+    pub(crate) fn has(&self, chain: usize, place: usize) -> bool
+        requires { chain < CHAINS }
+        ensures { IsTrue result ↔ (times place (places_in (list_at self.now chain)) ≢ 0) }
+    {
+        self.find(chain, place).is_some()
+    }
+
+    // Finds the node of `place` in `chain`. Returns the key of the node before it, which is `None` if it is the first,
+    // and its own key. Returns `None` if `place` isn't in `chain`. Walks `chain` from the first, up to that node.
+    fn find(&self, chain: usize, place: usize) -> Option<(Option<u8>, u8)>
+        requires { chain < CHAINS }
+        ensures { result ≡ keys_of place None (list_at self.now chain) }
+    {
+        let mut behind = None;
+        for link in self.on(chain) {
+            if link.place == place {
+                return Some((behind, link.key));
+            }
+            behind = Some(link.key);
+        }
+        None
+    }
+
+    // Removes the node `key` from `chain`, in which it follows the node `behind`, or is the first if that is `None`.
+    fn unlink(&mut self, chain: usize, behind: Option<u8>, key: u8)
+        requires chain { chain < CHAINS }
+        requires behind { (before after : List Link) × (x : Link)
+            × (list_at self.old chain ≡ before ++ x ∷ after) × (behind ≡ last_key before) × (x.key ≡ key) }
+        ensures lists { (before after : List Link) (x : Link)
+            → list_at self.old chain ≡ before ++ x ∷ after → behind ≡ last_key before → x.key ≡ key
+            → (d : ℕ) → list_at self.new d ≡ list_put chain (before ++ after) (list_at self.old) d }
+        ensures room { self.new.room ≡ self.old.room }
+    {
+        let Chain { first, last } = self.chains[chain];
+        let node = self.nodes.remove(key as usize);
+        let first = set_next(&mut self.nodes, first, behind, node.next);
+        let last = last_after(node.next, last, behind);
+        self.chains[chain] = Chain { first, last };
+        self.standing[node.place as usize] = false;
+    }
+
+    /// Removes the link of `place` from `chain`, and returns true. If `place` isn't in the chain, changes nothing and
+    /// returns false. Walks the chain from the first, up to that link.
+    pub(crate) fn take(&mut self, chain: usize, place: usize) -> bool
+        requires { chain < CHAINS }
+        ensures { TakesOut result chain place self.old self.new }
+    {
+        let Some((behind, key)) = self.find(chain, place) else {
+            return false;
+        };
+        self.unlink(chain, behind, key);
+        true
+    }
+
     /// Moves the first link of `chain`, that of a condition, to the end of the chain of the notified. Its node keeps
     /// its key. Returns false if the chain is empty, and then changes nothing; else returns true.
     #[inline(always)] // it has one caller
@@ -305,7 +366,7 @@ impl Chains {
         let next = self.nodes[key as usize].next.take();
         move_on(&mut self.chains[chain], next);
         let called = self.chains[CALLED];
-        let first = set_next(&mut self.nodes, called.first, called.last, key);
+        let first = set_next(&mut self.nodes, called.first, called.last, Some(key));
         self.chains[CALLED] = Chain {
             first,
             last: Some(key),
@@ -324,7 +385,7 @@ impl Chains {
             return;
         };
         let called = self.chains[CALLED];
-        let first = set_next(&mut self.nodes, called.first, called.last, key);
+        let first = set_next(&mut self.nodes, called.first, called.last, Some(key));
         self.chains[CALLED] = Chain { first, last };
         self.chains[chain] = Chain {
             first: None,

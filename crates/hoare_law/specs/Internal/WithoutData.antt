@@ -3,7 +3,7 @@ use Rattle.std.specs.Prelude.{List, map}
 use Rattle.hoare_law.specs.declared.event.Event.{Event}
 use Rattle.hoare_law.specs.declared.event.History.{History}
 use Rattle.hoare_law.specs.declared.event.Event.TheVariants.{Admit, Wait, Signal, Pass, Leave, Resume, Back, Notify}
-use Rattle.hoare_law.specs.declared.event.Event.TheVariants.{Broadcast}
+use Rattle.hoare_law.specs.declared.event.Event.TheVariants.{Broadcast, SignalTo}
 
 -- the event with the unit in place of its data
 abbrev pub without_data : {S : Type 0} → Event S → Event (Unit {0})
@@ -11,6 +11,7 @@ without_data (Admit k s) = Admit k tt
 without_data (Wait k c p s) = Wait k c p tt
 without_data (Signal k c w s) = Signal k c w tt
 without_data (Pass k c w s) = Pass k c w tt
+without_data (SignalTo k c w s) = SignalTo k c w tt
 without_data (Leave k s) = Leave k tt
 without_data (Resume k c s) = Resume k c tt
 without_data (Back k s) = Back k tt

@@ -6,13 +6,14 @@ use crate::steps::{Next, Step, StepRefused};
 use hoare_law::turn::Turn;
 
 impl Book {
-    ghost use Rattle.std.specs.Prelude.{◌≡◌, ◌<◌, ◌==◌, ℕ, MatchResult, IfOk, OnErr, Some, None, Option};
+    ghost use Rattle.std.specs.Prelude.{◌≡◌, ◌<◌, ◌==◌, ℕ, MatchResult, IfOk, OnErr, Some, None, Option, false};
     ghost use Rattle.hoare_law.specs.declared.event.History.{History};
     ghost use Rattle.hoare_law.specs.declared.turn.Turn.TheVariants as turns;
     ghost use Rattle.wait_book.specs.declared.steps.StepRefused.{StepRefused};
     ghost use Rattle.wait_book.specs.Contents.{IsOf, SameSizes, next_of, times_in};
     ghost use Rattle.wait_book.specs.Stepping.{IsOfKind, IsSettled, act_refusal, after_step, condition_refusal};
-    ghost use Rattle.wait_book.specs.Stepping.{enter_refusal, kind_refusal, refusal_of, settled};
+    ghost use Rattle.wait_book.specs.Stepping.{after_signal_to, enter_refusal, kind_refusal, refusal_of, settled};
+    ghost use Rattle.hoare_law.specs.Waiting.{wait_by};
 
     // Lets the place to which the monitor is owed resume, if there is one. Returns the turn after that. `try_step`
     // calls it at three places, and each is to have it inlined.
@@ -136,6 +137,32 @@ impl Book {
         let place = self.holder(place)?;
         let condition = self.condition(condition)?;
         Ok((place, condition))
+    }
+
+    /// Lets `place` signal to the place `waiter` on `condition`, and then lets the place to which the monitor is owed
+    /// resume. So it returns `Held` of the place inside: `waiter` if it waited there, else `place`. Any numbers are
+    /// allowed; a place that the book doesn't have waits nowhere.
+    ///
+    /// Refuses with the first that applies: `NoPlace`, `NotInside`, `NoCondition`, `WrongKind`. A refusal changes
+    /// nothing.
+    pub fn try_signal_to(
+        &mut self,
+        place: u64,
+        condition: u64,
+        waiter: u64,
+    ) -> Result<Next, StepRefused>
+        ensures of { (h : History (Unit {0})) → IsOf self.old h
+            → let refusal = act_refusal h place (kind_refusal h false condition) in MatchResult result
+            (λ _. (refusal ≡ None) × IsOf self.new
+            (settled (after_signal_to h place condition waiter (wait_by waiter condition h.events))))
+            (λ r. refusal ≡ Some r) }
+        ensures next { IfOk result (λ next. (next ≡ next_of self.new.turn) × IsSettled next) }
+        ensures sizes { SameSizes self.old self.new }
+        ensures err { OnErr result (self.new ≡ self.old) }
+    {
+        let (place, condition) = self.holder_of(place, condition, false)?;
+        self.signal_to(place, condition, waiter as usize);
+        Ok(self.settle())
     }
 
     /// Does `step`, and then lets the place to which the monitor is owed resume. So it returns `Held` of the place

@@ -43,11 +43,11 @@ returns c =
           record {
             of = λ h o. histories.IsOf-same _ _ _ (sound.parts s.room s.room refl s.signallers s.called refl)
                 (histories.after_notify-taken b c.args.place c.args.condition f.1.first.place _ r h
-                (histories.IsOf-same _ b h (sym c.self.view_is) o) m);
-            answer = ((λ t. priorities.priorities_on-taken r c.self.view_is), (λ some. f.0));
-            nobody = λ none. absurd (priorities.priorities_on-taken r c.self.view_is none);
+                (histories.IsOf-same _ b h (sym c.self.view_is) o) m s.first);
+            answer = ((λ t. priorities.priorities_on-taken r s.first c.self.view_is), (λ some. f.0));
+            nobody = λ none. absurd (priorities.priorities_on-taken r s.first c.self.view_is none);
             inside = ap (λ (v : Contents). v.turn) c.self.view_is ∙ c.requires.inside;
-            priorities = λ d. priorities.priorities_on-after b.signallers c.self.view_is r d;
+            priorities = λ d. priorities.priorities_on-after b.signallers c.self.view_is r s.first d;
             sizes = search rules;
           }
       | inr none ↦

@@ -66,11 +66,11 @@ returns c =
           λ h o. histories.IsOf-same _ _ _ (sound.parts out.room out.room refl out.kept.signallers out.kept.called refl)
           (histories.after_handing-taken b c.args.place c.args.condition c.in-Some.successor _ r h
           (histories.IsOf-same _ b h (sym c.self.view_is) o)
-          (sound.same_hoare b _ c.args.condition c.self.view_is c.requires.hoare) true);
+          (sound.same_hoare b _ c.args.condition c.self.view_is c.requires.hoare) out.first true);
       next = c.now.ensures.turn;
       somebody = λ some. (c.in-Some.successor, refl);
       answered = c.now.ensures.place;
       apart = sound.apart_same c.self.view_is c.self.invariant c.requires.inside;
-      priorities = priorities.priorities_on-after b.signallers c.self.view_is r;
+      priorities = priorities.priorities_on-after b.signallers c.self.view_is r out.first;
       sizes = search rules;
     }

@@ -83,8 +83,8 @@ invariant_of-self-2 c =
     let b : Contents = view_of c.self.inside in
     let below = sound.hoare_chain b _ c.args.condition c.self.view_is c.requires.hoare c.self.invariant in
     let s =
-    signalled c.args.condition c.args.place c.in-Some.resumed c.self.inside.chains c.take_first.new.self
-    c.append.new.self below c.in-Some.ensures c.append.ensures in
+    (signalled c.args.condition c.args.place c.in-Some.resumed c.self.inside.chains c.take_first.new.self
+    c.append.new.self below c.in-Some.ensures c.append.ensures).0 in
     let r = sound.resumes c.self.view_is c.self.invariant c.requires.inside (omega (arith, c.requires.hoare)) s.took in
     sound.IsSound-same _ _ (sound.parts s.room s.room s.waiters s.signallers s.called refl)
     (sound.signalled_sound _ c.args.place c.args.condition c.in-Some.resumed _ r
@@ -94,21 +94,22 @@ pub returns : goal.returns
 returns c =
     let b : Contents = view_of c.self.inside in
     let below = sound.hoare_chain b _ c.args.condition c.self.view_is c.requires.hoare c.self.invariant in
-    let s =
+    let p =
     signalled c.args.condition c.args.place c.in-Some.resumed c.self.inside.chains c.take_first.new.self
     c.append.new.self below c.in-Some.ensures c.append.ensures in
+    let s = p.0 in
     let r = sound.resumes c.self.view_is c.self.invariant c.requires.inside (omega (arith, c.requires.hoare)) s.took in
     record {
       of = λ h o. histories.IsOf-same _ _ _ (sound.parts s.room s.room s.waiters s.signallers s.called refl)
           (histories.after_handing-taken b c.args.place c.args.condition c.in-Some.resumed _ r h
           (histories.IsOf-same _ b h (sym c.self.view_is) o)
-          (sound.same_hoare b _ c.args.condition c.self.view_is c.requires.hoare) false);
+          (sound.same_hoare b _ c.args.condition c.self.view_is c.requires.hoare) p.1 false);
       next = search rules;
-      nobody = λ none. absurd (priorities.priorities_on-taken r c.self.view_is none);
+      nobody = λ none. absurd (priorities.priorities_on-taken r p.1 c.self.view_is none);
       somebody = λ some. (_, refl);
       answered = search rules;
       apart = sound.apart_same c.self.view_is c.self.invariant c.requires.inside;
       priorities = λ d. ap (λ (ws : List Waiter). in_order (λ p. p) (map key (filter (on d) ws))) s.waiters
-          ∙ priorities.priorities_on-after b.signallers c.self.view_is r d;
+          ∙ priorities.priorities_on-after b.signallers c.self.view_is r p.1 d;
       sizes = search rules;
     }

@@ -1,4 +1,4 @@
-use Rattle.std.proofs.Common.{ap, arith, refl, ◌∙◌}
+use Rattle.std.proofs.Common.{[], ap, arith, refl, ◌∙◌}
 use Rattle.wait_book.specs.Lists.{Lists, list_at}
 use Rattle.wait_book.specs.Chains.{chain_at}
 use Rattle.wait_book.proofs.Nodes.{opens, opens-contains, linked_none}
@@ -49,7 +49,7 @@ invariant_of-self c =
     (left (goal.at.invariant_of-self c).After-move_on) c.set_next-first.ensures in
     record {
       are = AreChains-seen called.are;
-      places = AreMarked-called c.args.chain called.first called.after
+      places = AreMarked-called c.args.chain [] called.first called.after
           (AreMarked-equal c.self.view_is c.self.invariant.places) (omega (arith, c.requires)) called.was
           (omega (arith, c.requires)) (lists_are called.are);
       kept = AreKept-called _ _ c.args.chain called.first _ called.after

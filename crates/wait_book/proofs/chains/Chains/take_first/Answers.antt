@@ -1,8 +1,8 @@
-use Rattle.std.proofs.Common.{ap, ◌∙◌, arith}
+use Rattle.std.proofs.Common.{[], ap, ◌∙◌, arith}
 use Rattle.wait_book.specs.Lists.{Lists, list_at}
 use Rattle.wait_book.proofs.Nodes.{opens, opens-contains, linked_none}
 use Rattle.wait_book.proofs.Chained.{AreChains-equal, AreChains-seen, AreChains-taken, takes, lists_are}
-use Rattle.wait_book.proofs.Marks.{AreMarked-equal, AreMarked-taken, first_within}
+use Rattle.wait_book.proofs.Marks.{AreMarked-equal, AreMarked-taken, place_within}
 use Rattle.wait_book.proofs.Kept.{AreKept-equal, AreKept-taken}
 use Rattle.wait_book.proofs.chains.Chains.take_first.Goals as goal
 
@@ -29,8 +29,8 @@ bounds-self-inside-place c =
     let t = takes c.args.chain c.in_ok-first.field-0 c.remove-node.result i c.in_ok-first.was node.value node.updates in
     omega (
       arith,
-      t.place,
-      first_within c.args.chain t.first t.after
+      t.removed.place,
+      place_within c.args.chain [] t.first t.after
           (AreMarked-equal c.self.view_is c.self.invariant.places) c.requires t.is,
     )
 
@@ -45,9 +45,9 @@ invariant_of-self-2 c =
     let marks = AreMarked-equal c.self.view_is c.self.invariant.places in
     record {
       are = AreChains-seen are;
-      places = AreMarked-taken c.args.chain t.first t.after marks c.requires t.is c.remove-node.result.place t.place
-          (lists_are are);
-      kept = AreKept-taken _ _ c.args.chain t.first t.after (AreKept-equal c.self.view_is c.self.invariant.kept) t.is
+      places = AreMarked-taken c.args.chain [] t.first t.after marks c.requires t.is c.remove-node.result.place
+          t.removed.place (lists_are are);
+      kept = AreKept-taken _ _ c.args.chain [] t.first t.after (AreKept-equal c.self.view_is c.self.invariant.kept) t.is
           (lists_are are);
       few = omega (arith, node.capacity, c.self.invariant.few);
     }
@@ -61,7 +61,7 @@ returns c =
       first = t.first;
       after = t.after;
       was = t.is;
-      first_place = t.place;
+      first_place = t.removed.place;
       lists = λ d. lists_are (AreChains-taken c.args.chain c.in_ok-first.field-0 c.remove-node.result
           c.move_on.ensures.first c.move_on.ensures.last i c.requires t node.len) d;
       room = node.capacity ∙ ap (λ (v : Lists). v.room) c.self.view_is;

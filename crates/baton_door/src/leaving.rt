@@ -31,7 +31,7 @@ impl<D: MonitorData> RawBatonDoor<D> {
 pub(crate) fn is_wait(how: Release) -> bool {
     match how {
         Release::Wait(_, _) => true,
-        Release::Signal(_) | Release::Pass(_) | Release::Leave => false,
+        Release::Signal(_) | Release::SignalTo(_, _) | Release::Pass(_) | Release::Leave => false,
     }
 }
 
@@ -40,6 +40,6 @@ pub(crate) fn is_wait(how: Release) -> bool {
 pub(crate) fn is_leaving(how: Release) -> bool {
     match how {
         Release::Pass(_) | Release::Leave => true,
-        Release::Wait(_, _) | Release::Signal(_) => false,
+        Release::Wait(_, _) | Release::Signal(_) | Release::SignalTo(_, _) => false,
     }
 }

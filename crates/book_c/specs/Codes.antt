@@ -1,9 +1,9 @@
 -- The codes that C gets for results and refusals.
-use Rattle.std.specs.Prelude.{ℕ, ◌≡◌, ◌<◌, nat_lt, if◌then◌else◌, length, Option, Some, None}
+use Rattle.std.specs.Prelude.{ℕ, ◌≡◌, ◌<◌, false, nat_lt, if◌then◌else◌, length, Option, Some, None}
 use Rattle.hoare_law.specs.declared.event.Event.{Event}
 use Rattle.hoare_law.specs.declared.event.History.{History}
 use Rattle.hoare_law.specs.Turns.{turn, outside}
-use Rattle.hoare_law.specs.Waiting.{chosen, priority_of}
+use Rattle.hoare_law.specs.Waiting.{chosen, priority_of, wait_by}
 use Rattle.hoare_law.specs.Priorities.{priorities}
 use Rattle.wait_book.specs.declared.steps.Next.{Next}
 use Rattle.wait_book.specs.declared.steps.Next.TheVariants.{Free, For, Held}
@@ -14,7 +14,7 @@ use Rattle.wait_book.specs.declared.steps.StepRefused.TheVariants.{WrongKind}
 use Rattle.wait_book.specs.declared.steps.MakeRefused.{MakeRefused}
 use Rattle.wait_book.specs.declared.steps.MakeRefused.TheVariants.{BadPlaces, BadConditions, Memory}
 use Rattle.wait_book.specs.Contents.{Contents, IsOf, IsPlaceBelow, next_of}
-use Rattle.wait_book.specs.Stepping.{after_step, refusal_of}
+use Rattle.wait_book.specs.Stepping.{act_refusal, after_signal_to, after_step, kind_refusal, refusal_of, settled}
 use Rattle.book_c.specs.Held.{Holds}
 
 -- the place that resumes or is inside, or 64 if the monitor is free
@@ -49,6 +49,20 @@ pub data Stepped (h : History (Unit {0})) (step : Step) (new : Contents) (code :
       → Stepped h step new code
   refused : (r : StepRefused) → refusal_of h step ≡ Some r → IsOf new h → code ≡ refusal_code r
       → Stepped h step new code
+
+-- what a signal of place k to place w on c made of a book of history h, and its code: as of a step
+pub data SignalledTo (h : History (Unit {0})) (k c w : ℕ) (new : Contents) (code : ℕ) : Type 0 where
+  was_done : act_refusal h k (kind_refusal h false c) ≡ None
+      → IsOf new (settled (after_signal_to h k c w (wait_by w c h.events)))
+      → Tells (settled (after_signal_to h k c w (wait_by w c h.events))) code
+      → SignalledTo h k c w new code
+  was_refused : (r : StepRefused) → act_refusal h k (kind_refusal h false c) ≡ Some r → IsOf new h → code ≡ refusal_code r
+      → SignalledTo h k c w new code
+
+-- such a signal that finds a book of a history leaves it there
+abbrev pub SignalsTo : ℕ → Contents → ℕ → ℕ → ℕ → ℕ → Contents → ℕ → Type 0
+SignalsTo live old k c w live' new code =
+    (h : History (Unit {0})) → Holds live old h → (live' ≡ 1) × SignalledTo h k c w new code
 
 -- a step that finds a book (live is 1) of a history makes of it what the step says, and leaves it there
 abbrev pub Steps : ℕ → Contents → Step → ℕ → Contents → ℕ → Type 0

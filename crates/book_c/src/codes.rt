@@ -2,7 +2,7 @@
 ghost use Rattle.std.specs.Prelude.{◌≡◌, ◌<◌, ◌≤◌};
 ghost use Rattle.hoare_law.specs.declared.event.History.{History};
 ghost use Rattle.wait_book.specs.Contents.{IsOf};
-ghost use Rattle.book_c.specs.Codes.{Stepped, Tells, make_code, outside_code, queue_code};
+ghost use Rattle.book_c.specs.Codes.{SignalledTo, Stepped, Tells, make_code, outside_code, queue_code};
 ghost use Rattle.book_c.specs.Codes.{first_or, condition_code, count_or, refusal_code};
 
 use hoare_law::waits::Waits;
@@ -73,6 +73,18 @@ pub fn stepped(book: &mut Book, step: Step) -> u64
     ensures refused { 64 < result → book.new ≡ book.old }
 {
     match book.try_step(step) {
+        Ok(_) => inside(book),
+        Err(refused) => refusal_code(refused),
+    }
+}
+
+/// Lets `place` signal to the place `waiter` on `condition`, and returns the number of the place that is inside then, below
+/// 64. Refused as `Book::try_signal_to`, with the code of the refusal; a refusal changes nothing.
+pub fn signalled_to(book: &mut Book, place: u64, condition: u64, waiter: u64) -> u64
+    ensures of { (h : History (Unit {0})) → IsOf book.old h → SignalledTo h place condition waiter book.new result }
+    ensures refused { 64 < result → book.new ≡ book.old }
+{
+    match book.try_signal_to(place, condition, waiter) {
         Ok(_) => inside(book),
         Err(refused) => refusal_code(refused),
     }

@@ -13,7 +13,7 @@ ghost use Rattle.wait_book.specs.declared.steps.Step.TheVariants as steps;
 ghost use Rattle.wait_book.specs.Contents.{make_refusal};
 ghost use Rattle.book_c.specs.Held.{Holds};
 ghost use Rattle.book_c.specs.Codes.{LacksBook, RefusalKeeps, Steps, Tells, make_code, outside_code, queue_code};
-ghost use Rattle.book_c.specs.Codes.{first_or, condition_code, count_or};
+ghost use Rattle.book_c.specs.Codes.{SignalsTo, first_or, condition_code, count_or};
 
 mod codes;
 pub mod handle;
@@ -130,6 +130,28 @@ pub extern "C" fn zaulinte_book_signal(
     ensures none { LacksBook book.old.live book.old book.new result }
 {
     book.step(Step::Signal(place, condition))
+}
+
+/// Lets `place` signal to the place `waiter` on `condition`, one of Hoare's. If that place waits there, whoever else
+/// waits, it is inside then; else nothing changes. Returns the place that is inside. Refused, in this order: 107 no
+/// book, 101 no such place, 104 not inside, 105 no such condition, 106 a Mesa condition. A refusal changes nothing.
+#[unsafe(no_mangle)]
+pub extern "C" fn zaulinte_book_signal_to(
+    _alloc: Global,
+    book: &mut Held,
+    place: u64,
+    condition: u64,
+    waiter: u64,
+) -> u64
+    ensures of { SignalsTo book.old.live book.old.handle.value place condition waiter book.new.live
+        book.new.handle.value result }
+    ensures refused { RefusalKeeps book.old.handle.value book.new.handle.value result }
+    ensures none { LacksBook book.old.live book.old book.new result }
+{
+    let Some(book) = book.held().get_mut() else {
+        return NO_BOOK;
+    };
+    codes::signalled_to(book, place, condition, waiter)
 }
 
 /// Lets `place` signal `condition`, one of Hoare's, as its last act. Returns the place that is inside then, or 64 if

@@ -18,7 +18,7 @@ pub mod keeper_slot;
 pub mod place;
 
 use door::HeldDoor;
-use door_place::act::{Broadcast, Leave, Notify, Set, Signal, TryEnter, TryReturn, Wait};
+use door_place::act::{Broadcast, Leave, Notify, Set, Signal, SignalTo, TryEnter, TryReturn, Wait};
 use door_place::codes::{DONE, IN_USE, IS_HELD, NO_MEMORY, NOTHING_HELD};
 use door_place::keeper::Keeper;
 use hoare_law::event::Sizes;
@@ -220,6 +220,19 @@ pub extern "C" fn zaulinte_door_signal(place: &mut HeldPlace, condition: u64) ->
     ensures none { place.old.live ≡ 0 → (result ≡ 107) × (place.new ≡ place.old) }
 {
     place.act(Signal(condition))
+}
+
+/// Lets the place signal to the place `waiter` on `condition`, one of Hoare's. If that place waits there, whoever else
+/// waits, returns its number, and it is to be woken: then this place is away, and attempts to return once it is woken.
+/// Returns 64 if it doesn't wait there (also if no place has that number): this place is still inside. Refused, in this
+/// order: 107 no place is held, 104 not inside, 105 no such condition, 106 a Mesa condition.
+#[unsafe(no_mangle)]
+pub extern "C" fn zaulinte_door_signal_to(place: &mut HeldPlace, condition: u64, waiter: u64) -> u64
+    ensures acted { place.old.live ≡ 1
+        → Acted (act.SignalTo condition waiter) place.old.handle.value place.new.live place.new.handle.value result }
+    ensures none { place.old.live ≡ 0 → (result ≡ 107) × (place.new ≡ place.old) }
+{
+    place.act(SignalTo(condition, waiter))
 }
 
 /// Lets the place signal `condition`, one of Hoare's, as its last act, and writes 1 to `resumed` if a place waited on

@@ -367,12 +367,12 @@ module _ {D : Type 0} where
               (record { goes_on = w; is_chosen = chooses c f who r; front = out.front });
         }
 
-    pub handed_to_it : (c w : ℕ) (b : Contents) (who : Next) (z : PlaceId) (o : PlaceOut D)
+    pub handed_to_it : (c w : ℕ) (z : PlaceId) (o : PlaceOut D)
         → Holds rest ready kinds d i t k f me x → IsHoare kinds.conditions kinds.mesa c
         → IsWaiting c i.front.events w → HandedTo ready c w i
         → z ≡ t → o ≡ place_out z k (with_event f (SignalTo k c w x.state))
         → Departs rest ready kinds d i.place (with_event i.front (SignalTo i.place c w i.state)) o
-    handed_to_it c w b who z o h hoare is_there asked same is =
+    handed_to_it c w z o h hoare is_there asked same is =
         let e = waiter_here c w h is_there in
         asked_back (λ j. Departs rest ready kinds d j.place (with_event j.front (SignalTo j.place c w j.state)) o) h
         (went_off (SignalTo k c w x.state) z o h (allowed_signal_to c w e.0 h hoare e.1)

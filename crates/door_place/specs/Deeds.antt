@@ -1,7 +1,7 @@
 -- What each act makes of a place's state, at a door, with a code.
 use Rattle.std.specs.Prelude.{ℕ}
 use Rattle.baton_door.specs.StepDoors.{StepId}
-use Rattle.door_place.specs.States.{TriesToEnter, TriesToReturn, Leaves, Waits, Signals, SignalLeaves, Notifies}
+use Rattle.door_place.specs.States.{TriesToEnter, TriesToReturn, Leaves, Waits, Signals, SignalsTo, SignalLeaves, Notifies}
 use Rattle.door_place.specs.States.{Broadcasts, Sets}
 use Rattle.door_place.specs.declared.state.State.{State}
 
@@ -22,6 +22,9 @@ Wait c p d old new code = Waits d old c p new code
 
 abbrev pub Signal : ℕ → Deed
 Signal c d old new code = Signals d old c new code
+
+abbrev pub SignalTo : ℕ → ℕ → Deed
+SignalTo c w d old new code = SignalsTo d old c w new code
 
 -- with the word `resumed` before and after
 abbrev pub SignalLeave : ℕ → ℕ → ℕ → Deed

@@ -1,7 +1,7 @@
 -- The state of a place of a door, and what each act makes of it.
 use Rattle.std.specs.Prelude.{◌≡◌, ◌<◌, ◌≤◌, ℕ, [], ⊤, Bool, IsTrue, if◌then◌else◌}
 use Rattle.std.specs.Prelude.{◌≢◌, ◌↔◌, length, slice_index}
-use Rattle.hoare_law.specs.declared.event.Event.TheVariants.{Admit, Wait, Leave}
+use Rattle.hoare_law.specs.declared.event.Event.TheVariants.{Admit, Wait, Leave, SignalTo}
 use Rattle.hoare_law.specs.declared.event.History.{History}
 use Rattle.hoare_law.specs.declared.unconstrained.Unconstrained.{Unconstrained}
 use Rattle.hoare_law.specs.Events.{opened, with_event}
@@ -11,6 +11,7 @@ use Rattle.hoare_law.specs.Lawful.{Rest, Ready}
 use Rattle.hoare_law.specs.Priorities.{priorities}
 use Rattle.hoare_law.specs.Sizes.{IsHoare, IsMesa, sizes_of}
 use Rattle.hoare_law.specs.Turns.{turn}
+use Rattle.hoare_law.specs.Waiting.{IsWaiting}
 use Rattle.wait_book.specs.Contents.{IsPlaceBelow, next_of}
 use Rattle.door_frame.specs.Places.{PlaceIn, PlaceOut, IsAway, IsBack, IsIn, IsOut, HandsTo, with_state}
 use Rattle.baton_door.specs.StepDoors.{StepId}
@@ -102,6 +103,20 @@ pub data Signals (d : StepId) (old : State) (c : ℕ) (new : State) (code : ℕ)
       → Signals d old c new code
   wrong_kind : (i : PlaceIn Carried) → old ≡ Inside i → new ≡ old → IsMesa d.kinds.conditions d.kinds.mesa c
       → code ≡ 106 → Signals d old c new code
+
+-- a signal to place w: the place is away, and the code is w, which waited on the condition; w doesn't wait there (64);
+-- the place isn't inside (104); there is no such condition (105); it is a Mesa condition (106)
+pub data SignalsTo (d : StepId) (old : State) (c w : ℕ) (new : State) (code : ℕ) : Type 0 where
+  signals_to : (i : PlaceIn Carried) (o : PlaceOut Carried) → old ≡ Inside i → new ≡ Away o
+      → IsHoare d.kinds.conditions d.kinds.mesa c → IsWaiting c i.front.events w → o.place ≡ i.place
+      → o.front ≡ with_event i.front (SignalTo i.place c w i.state) → Wakes o.front code → SignalsTo d old c w new code
+  no_waiter : (i : PlaceIn Carried) → old ≡ Inside i → new ≡ old → IsHoare d.kinds.conditions d.kinds.mesa c
+      → (IsWaiting c i.front.events w → ⊥) → code ≡ 64 → SignalsTo d old c w new code
+  not_inside : NotInside old → new ≡ old → code ≡ 104 → SignalsTo d old c w new code
+  no_condition : (i : PlaceIn Carried) → old ≡ Inside i → new ≡ old → d.kinds.conditions ≤ c → code ≡ 105
+      → SignalsTo d old c w new code
+  wrong_kind : (i : PlaceIn Carried) → old ≡ Inside i → new ≡ old → IsMesa d.kinds.conditions d.kinds.mesa c
+      → code ≡ 106 → SignalsTo d old c w new code
 
 -- a signal joined with the exit: the place is outside, the code is the place to wake, and the word `resumed` is 1 if a
 -- place waited on the condition, else 0; it isn't inside (104); there is no such condition (105); it is a Mesa

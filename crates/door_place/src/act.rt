@@ -59,6 +59,12 @@ pub struct Wait(pub u64, pub u64);
 #[derive(Clone, Copy)]
 pub struct Signal(pub u64);
 
+/// A signal to the place with the number `.1`, on one of Hoare's conditions, `.0`. If that place waits there, returns its
+/// number: it has the monitor next, whoever else waits, and the signaller is away. If it doesn't wait there, returns
+/// `NOBODY`, and the signaller is still inside. Refused: `NOT_INSIDE`, `NO_CONDITION`, `WRONG_KIND`.
+#[derive(Clone, Copy)]
+pub struct SignalTo(pub u64, pub u64);
+
 /// A notify of the place that a signal on a Mesa condition, `.0`, would resume. Returns the number of notified places,
 /// 1 or 0. Refused: `NOT_INSIDE`, `NO_CONDITION`, `WRONG_KIND`.
 #[derive(Clone, Copy)]
@@ -156,6 +162,28 @@ impl Act for Signal {
             return (State::Inside(inside), WRONG_KIND);
         }
         match calls::begin_signal(door, inside, condition as usize) {
+            Ok((away, next)) => (State::Away(away), code_of(door, next)),
+            Err(inside) => (State::Inside(inside), NOBODY),
+        }
+    }
+}
+
+impl Act for SignalTo {
+    ghost deed = { λ s. deeds.SignalTo s.0 s.1 };
+
+    fn perform(self, door: &Door, state: State) -> (State, u64) {
+        let SignalTo(condition, waiter) = self;
+        let State::Inside(inside) = state else {
+            return (state, NOT_INSIDE);
+        };
+        let limits = Limits::of(door);
+        if condition >= limits.conditions {
+            return (State::Inside(inside), NO_CONDITION);
+        }
+        if condition >= limits.hoare {
+            return (State::Inside(inside), WRONG_KIND);
+        }
+        match calls::begin_signal_to(door, inside, condition as usize, waiter as usize) {
             Ok((away, next)) => (State::Away(away), code_of(door, next)),
             Err(inside) => (State::Inside(inside), NOBODY),
         }

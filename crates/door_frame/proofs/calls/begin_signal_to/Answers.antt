@@ -25,7 +25,7 @@ returns g c =
     let waits = (c.if-not-has_waiter.ensures).0 refl in
     let book = c.signal_to-next.ensures.of (dataless c.args.inside.front) h.book in
     let is = c.of_parts.ensures _ (c.release.ensures.away _ h.me_is) in
-    let o = handed_to_it c.args.condition c.args.waiter _ _ _ _ h c.requires.hoare waits c.requires.ready
+    let o = handed_to_it c.args.condition c.args.waiter _ _ h c.requires.hoare waits c.requires.ready
     (place_id_on g.S.Parking.at _ c.release.ensures.table) is in
     record {
       of = o.of;

@@ -266,8 +266,7 @@ template <class T, class C = no_conditions, class M = no_conditions> class monit
             return *this;
         }
         ~inside() { ends(); }
-        // Returns the number of the place. A thread puts it into the data before it waits, if a `signal_to` is to resume
-        // it.
+        // Returns the number of the place. Before a wait that a `signal_to` is to end, a thread puts it into the data.
         unsigned place_number(from where = from::here()) const {
             holds("place_number", where);
             return number;

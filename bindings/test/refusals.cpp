@@ -326,6 +326,7 @@ static void tested(const char *fault) {
         if (!waits) continue;
         in->items = !std::strcmp(fault, "inv") ? -1 : std::strcmp(fault, "ready") != 0;
         if (!std::strcmp(fault, "rest")) in.leave();
+        else if (!std::strcmp(fault, "inv")) in.signal_to(store::may::take, 1);
         else in.signal_leave(store::may::take);
         break;
     }

@@ -66,6 +66,10 @@ uint64_t zaulinte_book_wait(zaulinte_book *book, uint64_t place, uint64_t condit
  * later; else `place` stays inside. Refused: 107 no book, 101 no such place, 104 `place` isn't inside, 105 no such
  * condition, 106 a Mesa condition. */
 uint64_t zaulinte_book_signal(zaulinte_book *book, uint64_t place, uint64_t condition);
+/* Lets `place` signal to the place `waiter` on `condition`, one of Hoare's. If `waiter` waits on it, `waiter` is
+ * resumed, whichever places wait there before it, and `place` returns later; these places keep their order. Else
+ * `place` stays inside, also if there is no place `waiter`. Refused as `signal`. */
+uint64_t zaulinte_book_signal_to(zaulinte_book *book, uint64_t place, uint64_t condition, uint64_t waiter);
 /* Lets `place` signal `condition`, one of Hoare's, as its last act: `place` is outside then. Refused as `signal`. */
 uint64_t zaulinte_book_pass(zaulinte_book *book, uint64_t place, uint64_t condition);
 /* Lets `place` notify the waiter on the Mesa condition `condition` that a signal would resume. `place` stays inside,

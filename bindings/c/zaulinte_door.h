@@ -104,6 +104,11 @@ uint64_t zaulinte_door_wait(zaulinte_door_place *place, uint64_t condition, uint
  * still inside. Refused: 107 `place` holds nothing, 104 the place isn't inside, 105 no such condition, 106 a Mesa
  * condition. */
 uint64_t zaulinte_door_signal(zaulinte_door_place *place, uint64_t condition);
+/* Lets the place signal to the place of number `waiter` on `condition`, one of Hoare's. If that place waits on the
+ * condition, the signal resumes it, whichever places wait there before it; these keep their order. Returns `waiter`
+ * then: its thread is to be woken, and the signaller is away, as after a `wait`. Returns 64 if that place doesn't wait
+ * there, or if there is no such place: the signaller is still inside. Refused as `signal`. */
+uint64_t zaulinte_door_signal_to(zaulinte_door_place *place, uint64_t condition, uint64_t waiter);
 /* Lets the place signal `condition`, one of Hoare's, and leave, in one step. Writes 1 to *resumed if a place waited on
  * the condition, else 0. Returns the place to wake, or 64, as `leave` does: if a place waited, it is the place that the
  * signal resumed. Refused as `signal`; *resumed then stays. */

@@ -1,10 +1,13 @@
 //! A monitor for running threads, over the raw monitor of any door: the calls of `Monitor`, written once.
 ghost use Rattle.std.specs.Prelude.{◌≡◌, ◌<◌, ◌⊎◌, ℕ, IfOk, IfErr, None, Some, All};
 ghost use Rattle.hoare_law.specs.Events.{opened};
-ghost use Rattle.hoare_law.specs.Priorities.{nobody};
-ghost use Rattle.hoare_law.specs.Sizes.{sizes_of};
+ghost use Rattle.std.specs.Prelude.{◌↔◌, IsTrue, true, false};
+ghost use Rattle.hoare_law.specs.Growth.{SignalsTo};
+ghost use Rattle.hoare_law.specs.Priorities.{nobody, priorities};
+ghost use Rattle.hoare_law.specs.Sizes.{IsHoare, sizes_of};
+ghost use Rattle.hoare_law.specs.Waiting.{IsWaiting};
 ghost use Rattle.wait_book.specs.Contents.{make_refusal};
-ghost use Rattle.door_frame.specs.Places.{places_from, HasPlace, Closes};
+ghost use Rattle.door_frame.specs.Places.{places_from, HandedTo, HasPlace, IsIn, Closes};
 
 use crate::calls;
 use crate::making::parts_for;
@@ -77,6 +80,35 @@ impl<T> RunningMonitor<T> {
             Ok((raw_monitor, outs)) => Ok((RunningMonitor { raw_monitor }, outs)),
             Err(state) => Err((state, MakeRefused::Memory)),
         }
+    }
+
+    /// Signals to the place with the number `waiter`, on one of Hoare's conditions. If that place waits there, it resumes
+    /// at once, whoever else waits, and the other waiters keep their order; this call returns, with true, when the
+    /// monitor is given up after that. If it doesn't wait there, changes nothing and returns false. The caller must
+    /// prove `ready` of the data, for that wait and its priority. What is resumed so finds the same `ready` as after a
+    /// signal: the data must say why it was resumed, if that matters. This call is this project's own: Hoare's signal
+    /// resumes the first waiter.
+    pub fn signal_to<D: MonitorData + Send, R: Wait>(
+        &self,
+        rt: &R,
+        inside: Inside<D>,
+        condition: usize,
+        waiter: usize,
+    ) -> (Inside<D>, bool)
+    where
+        T: Runs<D>,
+        requires of { IsIn D.rest D.ready (T.kinds self.now) (T.id self.now) inside }
+        requires hoare { IsHoare (T.kinds self.now).conditions (T.kinds self.now).mesa condition }
+        requires ready { HandedTo D.ready condition waiter inside }
+        ensures of { IsIn D.rest D.ready (T.kinds self.now) (T.id self.now) result.0 }
+        ensures place { result.0.place ≡ inside.place }
+        ensures answer { IsTrue result.1 ↔ IsWaiting condition inside.front.events waiter }
+        ensures rest { result.1 ≡ true → D.rest result.0.state (priorities result.0.front.events) }
+        ensures same { result.1 ≡ false → result.0 ≡ inside }
+        ensures front { SignalsTo inside.place condition waiter inside.state result.0.state
+            inside.front result.0.front result.1 }
+    {
+        calls::signal_to(&self.raw_monitor, rt, inside, condition, waiter)
     }
 
     /// Takes the monitor apart. All of its places are handed in, in any order. Returns the data as one legal and lawful

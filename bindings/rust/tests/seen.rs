@@ -106,8 +106,8 @@ fn a_recording_that_overflowed_begins_in_the_state_of_its_ring() {
     assert_eq!(recording, format!("monitor 8 3 1\n{START}broadcast 0 2\n"));
 }
 
-/// Places 1 to 3 wait on NonFull, in this order. Place 0 signals to each of `to`, a condition and a place; the place that
-/// is resumed stays inside, else place 0.
+/// Places 1 to 3 wait on NonFull, in this order. Place 0 signals to each of `to`, a condition and a place. The place
+/// that this resumes stays inside, else place 0.
 fn signals_to(acts: usize, to: &'static [(Of, usize)]) -> Mine {
     let (monitor, mut places) = Monitor::new(Items(0), 4).unwrap();
     monitor.record(&mut places, acts).unwrap();

@@ -111,7 +111,7 @@ fn signals(inside: &mut Inside<'_>, me: u64, c: u64) {
     }
 }
 
-/// Draws a place, or the number after the last. Of two draws one is of a place that waits on the condition, if one does.
+/// Draws a place, or the number after the last. Of two draws one is a place that waits on the condition, if one does.
 fn drawn_place(inside: &Inside<'_>, c: u64, lot: usize) -> usize {
     let (any, is_any) = (lot / 2 % (WORKERS + 2), lot % 2 == 0);
     let mut from_there = (0..=WORKERS).map(|k| (any + k) % (WORKERS + 1));

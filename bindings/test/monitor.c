@@ -391,6 +391,7 @@ static bool signal_to(uint32_t condition, uint32_t place) {
 static void chooses(uint32_t chosen, uint32_t then, uint32_t last) {
     IS(signal_to(ROOM, chosen), false); /* it waits on another condition */
     IS(signal_to(ITEM, CHOOSER), false);
+    for (uint32_t past = 64; past; past *= 2) IS(signal_to(ITEM, chosen + past), false);
     IS(many, 0);
     outcome[chosen] = SERVED;
     IS(signal_to(ITEM, chosen), true);
@@ -469,12 +470,14 @@ static void limits(void) {
     for (uint32_t k = 0; k < LIMITED; k++) pthread_join(ids[k], NULL);
     IS(zaulinte_free(&m), 0);
 }
-/* What is recorded if the chosen place isn't the first waiter, if it is, and if it doesn't wait. */
+/* What is recorded if the chosen place isn't the first waiter (the recording begins anew), if it is, and if it doesn't
+ * wait. The second waiter is chosen, and chooses the third; so there are two signallers. */
 #define BEGUN "monitor 4 2 0\nenter 1\nwait 1 0 0\nenter 0\nwait 0 0 5\nenter 2\nwait 2 0 5\nenter 3\nsignal 3 0\n"
-static void is_saved(const char *after) {
-    char path[] = "/tmp/zaulinte_XXXXXX", saved[400] = "", wanted[400];
+#define TWICE \
+    "monitor 4 2 0\nenter 1\nwait 1 0 0\nenter 2\nwait 2 0 0\nenter 0\nwait 0 0 5\nenter 3\nsignal 3 0\nsignal 1 0\n"
+static void is_saved(const char *wanted) {
+    char path[] = "/tmp/zaulinte_XXXXXX", saved[400] = "";
     int from = mkstemp(path);
-    snprintf(wanted, sizeof wanted, "%s%s", BEGUN, after);
     IS(from >= 0 && zaulinte_save(&m, path), true);
     ssize_t bytes = pread(from, saved, sizeof saved - 1, 0);
     close(from), unlink(path);
@@ -486,7 +489,11 @@ static void *saves(void *place) {
     uint32_t me = (uint32_t)(uintptr_t)place;
     ZAULINTE_CHECK(zaulinte_enter(&m, me));
     ZAULINTE_CHECK(zaulinte_wait(&m, me, ITEM, 5));
-    if (me == SECOND) is_saved("");
+    if (me == SECOND) {
+        is_saved(BEGUN);
+        ZAULINTE_CHECK(zaulinte_signal_to(&m, me, ITEM, THIRD, NULL));
+    }
+    if (me == THIRD) is_saved(TWICE);
     ZAULINTE_CHECK(zaulinte_leave(&m, me));
     return NULL;
 }
@@ -499,12 +506,11 @@ static void records_choices(size_t acts) {
     wait_in_turn(ids, CHOOSER, saves, CHOOSER);
     IS(zaulinte_enter(&m, CHOOSER), 0);
     IS(signal_to(ITEM, SECOND), true);
-    is_saved("leave 1\n");
-    IS(signal_to(ROOM, THIRD) || signal_to(ITEM, CHOOSER) || signal_to(ITEM, 64), false);
-    is_saved("leave 1\n");
+    is_saved(TWICE "leave 2\n");
+    IS(signal_to(ROOM, FIRST) || signal_to(ITEM, SECOND) || signal_to(ITEM, 64), false);
+    is_saved(TWICE "leave 2\n");
     IS(signal_to(ITEM, FIRST), true);
-    if (acts > 3) is_saved("leave 1\nsignal 3 0\nleave 0\n");
-    IS(signal_to(ITEM, THIRD), true);
+    if (acts > 3) is_saved(TWICE "leave 2\nsignal 3 0\nleave 0\nleave 1\n");
     IS(zaulinte_leave(&m, CHOOSER), 0);
     for (uint32_t k = 0; k < CHOOSER; k++) pthread_join(ids[k], NULL);
     IS(zaulinte_free(&m), 0);

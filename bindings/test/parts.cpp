@@ -64,7 +64,7 @@ static void moved() {
     std::vector<group::inside> in;
     in.push_back(entered(only));
     in.reserve(9);
-    is(in[0]->items == 1 && !only.try_enter() && !m.try_enter(0));
+    is(in[0]->items == 1 && in[0].place_number() == 1 && !only.try_enter() && !m.try_enter(0));
     in.clear();
     auto other = m.enter(0);
     is(!only.try_enter()); // the place is given back: the next one gets it

@@ -174,6 +174,7 @@ template <class T, class C = no_conditions, class M = no_conditions> class monit
         recording = std::move(memory);
     }
     // Writes the recording to a file: `zaulinte_save` says when, and what it is. Returns false if that can't be done.
+    // `inside::signal_to` may let the recording begin anew: `zaulinte_record` says when.
     bool save(const char *path) noexcept { return zaulinte_save(&m, path); }
 
     // The waiters on each condition, for a check: `count` is their number, `first` the priority of the waiter that a
@@ -265,11 +266,17 @@ template <class T, class C = no_conditions, class M = no_conditions> class monit
             return *this;
         }
         ~inside() { ends(); }
+        // Returns the number of the place. A thread puts it into the data before it waits, if a `signal_to` is to resume
+        // it.
+        unsigned place_number(from where = from::here()) const {
+            holds("place_number", where);
+            return number;
+        }
         T *operator->() { return &reaches("->", entered); }
         T &operator*() { return reaches("*", entered); }
 
         // Waits on a condition of either kind, and blocks until the place is resumed. Of the waiters a signal resumes
-        // that of least priority, of equal ones the longest waiting.
+        // that of least priority, of equal ones the longest waiting; `signal_to` resumes the one that it names.
         template <class E> void wait(E c, std::uint64_t priority = 0, from where = from::here()) {
             must(zaulinte_wait(holds("wait", where), number, at(c), priority), "wait", number, c);
         }
@@ -278,6 +285,19 @@ template <class T, class C = no_conditions, class M = no_conditions> class monit
         bool signal(C c, from where = from::here()) {
             bool was = false;
             must(zaulinte_signal(holds("signal", where), number, at(c), &was), "signal", number, c);
+            return was;
+        }
+        // Signals one of Hoare's conditions to the place with the number `waiter`. If that place waits on it, hands off
+        // the monitor to that place, whoever else waits, and blocks until this place is inside again. Returns true if
+        // that place waited there; else nothing happens, also if there is no such place.
+        //
+        // Use it to end a wait early, since its time is over or a client is gone, or to resume one of many waiters by a
+        // key: each waiter puts its `place_number` into the data. The resumed thread finds out by the data why it
+        // resumes. What `ready` says has to hold for that waiter, which may be another than the one that a signal would
+        // resume. The other waiters keep their order. Hoare's paper has no such call.
+        bool signal_to(C c, unsigned waiter, from where = from::here()) {
+            bool was = false;
+            must(zaulinte_signal_to(holds("signal_to", where), number, at(c), waiter, &was), "signal_to", number, c);
             return was;
         }
         // Signals one of Hoare's conditions as the last act: afterwards the place is outside, and this object refuses

@@ -9,6 +9,7 @@
 #include <sstream>
 #include <thread>
 #include <type_traits>
+#include <vector>
 
 class store {
   public:
@@ -46,17 +47,26 @@ void exchanges(monitor &m) { (void)m.enter(store::may::put); }
 void exchanges(inside &in) { in.wait(3); }
 #elif MUST_NOT_BUILD == 12 // says: no matching function for call to.*at
 void waits(zaulinte::monitor<int>::inside &in) { in.wait(store::may::put); }
+#elif MUST_NOT_BUILD == 13 // says: cannot \(convert\|initialize\)
+void exchanges(inside &in) { in.signal_to(3, store::may::put); }
+#elif MUST_NOT_BUILD == 14 // says: cannot \(convert\|initialize\)
+void exchanges(inside &in) { in.signal_to(store::may::put, store::may::take); }
 #endif
 
 template <class E, class = void> struct can_signal : std::false_type {};
 template <class E>
 struct can_signal<E, std::void_t<decltype(std::declval<inside &>().signal(E{}))>> : std::true_type {};
+template <class E, class W, class = void> struct can_signal_to : std::false_type {};
+template <class E, class W>
+struct can_signal_to<E, W, std::void_t<decltype(std::declval<inside &>().signal_to(E{}, W{}))>> : std::true_type {};
 template <class E, class = void> struct can_notify : std::false_type {};
 template <class E>
 struct can_notify<E, std::void_t<decltype(std::declval<inside &>().notify(E{}))>> : std::true_type {};
 using hoare = monitor::condition_type;
 using mesa = monitor::mesa_condition_type;
 static_assert(can_signal<hoare>::value && !can_signal<mesa>::value && !can_signal<int>::value);
+static_assert(can_signal_to<hoare, unsigned>::value && !can_signal_to<mesa, unsigned>::value);
+static_assert(!can_signal_to<unsigned, hoare>::value && !can_signal_to<hoare, hoare>::value);
 static_assert(can_notify<mesa>::value && !can_notify<hoare>::value && std::is_same_v<monitor::data_type, store>);
 using group = zaulinte::group<monitor>;
 template <class T> constexpr bool copies = std::is_copy_constructible_v<T> || std::is_copy_assignable_v<T>;
@@ -111,6 +121,7 @@ struct call {
 };
 static const call calls[] = {
     {"signal", true, [](inside &in) { in.signal(no_may); }},
+    {"signal_to", true, [](inside &in) { in.signal_to(no_may, 0); }},
     {"wait", true, [](inside &in) { in.wait(no_may); }},
     {"signal_leave", true, [](inside &in) { in.signal_leave(no_may); }},
     {"notify", true, [](inside &in) { in.notify(no_is); }},
@@ -118,6 +129,7 @@ static const call calls[] = {
     {"queue", true, [](inside &in) { in.queue(no_may); }},
     {"count", true, [](inside &in) { in.count(no_may); }},
     {"first", true, [](inside &in) { in.first(no_may); }},
+    {"place_number", false, [](inside &in) { in.place_number(); }},
     {"->", false, [](inside &in) { in->items++; }},
     {"*", false, [](inside &in) { (*in).items++; }},
     {"leave", false, [](inside &in) { in.leave(); }},
@@ -220,6 +232,75 @@ static void by_priority() {
     first.join(), last.join();
 }
 
+// The waiters of a monitor of four places, for signals to one of them: places 1 to 3 wait in this order.
+struct served {
+    ZAULINTE_CONDITIONS_IN_CLASS(on, item, other);
+    std::vector<unsigned> resumed; // the places, in order
+    std::optional<unsigned> ended; // the waiter whose wait is ended without an item
+    unsigned items = 0;
+};
+class waiters {
+    using of_served = zaulinte::monitor<served, served::on>;
+    of_served m{4};
+    bool has_item[4]{};
+    std::vector<std::thread> threads;
+
+  public:
+    explicit waiters(const std::uint64_t (&priority)[3]) {
+        for (unsigned k = 1; k <= 3; k++) {
+            threads.emplace_back([this, k, p = priority[k - 1]] { has_item[k] = waits(k, p); });
+            while (m.enter(0).count(served::on::item) < k) std::this_thread::yield();
+        }
+    }
+    // Waits, and takes an item, unless the wait is ended. Returns true if it took one.
+    bool waits(unsigned k, std::uint64_t priority) {
+        auto in = m.enter(k);
+        in.wait(served::on::item, priority);
+        in->resumed.push_back(in.place_number());
+        if (std::exchange(in->ended, std::nullopt) == k) return false;
+        return in->items-- > 0;
+    }
+    of_served::inside enter() { return m.enter(0); }
+    // Gives each waiter an item, in the order in which a signal resumes them. Returns true if all but `none` took one.
+    bool serves(const std::vector<unsigned> &order, unsigned none) {
+        {
+            auto in = m.enter(0);
+            while (in.queue(served::on::item)) in->items++, is(in.signal(served::on::item));
+            is(in->resumed == order && in->items == 0);
+        }
+        for (auto &t : threads) t.join();
+        bool all = true;
+        for (unsigned k = 1; k <= 3; k++) all = all && has_item[k] == (k != none);
+        return all;
+    }
+};
+// A signal to a place resumes it, whoever else waits, and the others keep their order.
+static void to_a_place(const std::uint64_t (&priority)[3], unsigned waiter, const std::vector<unsigned> &order) {
+    constexpr auto item = served::on::item;
+    waiters w(priority);
+    {
+        auto in = w.enter();
+        in->items++;
+        is(in.place_number() == 0 && in.signal_to(item, waiter));
+        is(in->resumed == std::vector{waiter} && in.count(item) == 2); // it resumed before this place was back
+        is(!in.signal_to(item, waiter) && !in.signal_to(item, 0) && !in.signal_to(served::on::other, order[1]));
+        for (unsigned none : {4u, 63u, 64u, 255u, 256u + order[1], 65536u + order[1], UINT32_MAX})
+            is(!in.signal_to(item, none));
+        is(in->resumed.size() == 1 && in.count(item) == 2);
+    }
+    is(w.serves(order, 0));
+}
+// The waiters come in the order of their arrival, and the limit of the second ends first.
+static void to_a_late_place() {
+    waiters w({0, 0, 0});
+    {
+        auto in = w.enter();
+        in->ended = 2;
+        is(in.signal_to(served::on::item, 2) && !in->ended && in.count(served::on::item) == 2);
+    }
+    is(w.serves({2, 1, 3}, 2));
+}
+
 static bool inv(const store &s) { return s.items >= 0; }
 static bool rest(const store &s, const monitor::waiting &w) {
     bool waits = w.count(store::may::take) > 0;
@@ -256,6 +337,11 @@ int main(int argc, char **argv) {
     assigned();
     limits();
     by_priority();
+    to_a_place({5, 5, 5}, 2, {2, 1, 3});
+    to_a_place({5, 5, 5}, 3, {3, 1, 2});
+    to_a_place({7, 6, 5}, 1, {1, 3, 2});
+    to_a_place({9, 5, 7}, 2, {2, 3, 1});
+    to_a_late_place();
     recorded(argv[0] + std::string(".script"));
     data_alone(argv[0] + std::string(".script"));
     tested(fault);

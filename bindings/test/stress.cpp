@@ -16,6 +16,7 @@ struct event {
 };
 struct log {
     std::vector<event> events;
+    std::optional<unsigned> waits_on[places + 1]; // the condition on which a place waits, or was notified
     std::uint64_t data = 0;
     unsigned finished = 0;
 };
@@ -52,13 +53,28 @@ template <class C> static std::uint64_t asks(monitor::inside &in, unsigned me, C
 }
 template <class C> static void waits(monitor::inside &in, unsigned me, C c, std::uint64_t priority) {
     put(in, "wait", me, at(c), priority);
+    in->waits_on[in.place_number()] = at(c);
     in.wait(c, priority);
     put(in, "resume", me, at(c));
+    in->waits_on[me].reset();
 }
 static void signals(monitor::inside &in, unsigned me, on c) {
     bool was = in.queue(c);
     put(in, was ? "signal" : "empty", me, at(c));
     is(in.signal(c) == was);
+    if (was) put(in, "back", me);
+}
+// Draws a place, or the number after the last; of two draws one is of a place that waits on the condition, if any does.
+static unsigned drawn_place(monitor::inside &in, on c, std::uint64_t lot) {
+    auto any = static_cast<unsigned>(lot / 2 % (spare + 2));
+    for (unsigned k = any; lot % 2 && k <= any + spare; k++)
+        if (in->waits_on[k % (spare + 1)] == at(c)) return k % (spare + 1);
+    return any;
+}
+static void signals_to(monitor::inside &in, unsigned me, on c, unsigned waiter) {
+    bool was = waiter <= spare && in->waits_on[waiter] == at(c);
+    put(in, was ? "signalto" : "absent", me, at(c), waiter);
+    is(in.signal_to(c, waiter) == was);
     if (was) put(in, "back", me);
 }
 static void calls(monitor::inside &in, unsigned me, bool all) {
@@ -68,11 +84,12 @@ static void calls(monitor::inside &in, unsigned me, bool all) {
     is(all ? in.broadcast(called_on::mesa) == many : in.notify(called_on::mesa) == (many > 0));
 }
 static void misuses(monitor &m, monitor::inside &in, unsigned me, std::uint64_t lot) {
-    switch (lot % 5) {
+    switch (lot % 6) {
     case 0: is_refused(ZAULINTE_NO_CONDITION, [&] { in.wait(static_cast<on>(hoare)); }); break;
     case 1: is_refused(ZAULINTE_NO_CONDITION, [&] { in.signal(static_cast<on>(hoare)); }); break;
     case 2: is_refused(ZAULINTE_NO_CONDITION, [&] { in.broadcast(static_cast<called_on>(UINT32_MAX)); }); break;
-    case 3: is_refused(ZAULINTE_NOT_OUTSIDE, [&] { (void)m.enter(me); }); break;
+    case 3: is_refused(ZAULINTE_NO_CONDITION, [&] { in.signal_to(static_cast<on>(hoare), me); }); break;
+    case 4: is_refused(ZAULINTE_NOT_OUTSIDE, [&] { (void)m.enter(me); }); break;
     default: is(!m.try_enter(spare)); // a place that no thread has
     }
 }
@@ -85,7 +102,8 @@ static void step(monitor &m, monitor::inside &in, unsigned me, std::uint64_t lot
         if (c == hoare) waits(in, me, called_on::mesa, lot / 64 % 4);
         else waits(in, me, static_cast<on>(c), lot / 64 % 4);
     } else if (c == hoare) calls(in, me, lot / 64 % 2);
-    else signals(in, me, static_cast<on>(c));
+    else if (lot / 64 % 2) signals(in, me, static_cast<on>(c));
+    else signals_to(in, me, static_cast<on>(c), drawn_place(in, static_cast<on>(c), lot / 128));
     in->data++;
     if (lot / 1024 % 4 == 0) misuses(m, in, me, lot / 4096);
 }

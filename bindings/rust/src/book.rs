@@ -11,6 +11,7 @@ extern "C" {
     fn zaulinte_book_leave(book: &mut Handle, place: u64) -> u64;
     fn zaulinte_book_wait(book: &mut Handle, place: u64, condition: u64, priority: u64) -> u64;
     fn zaulinte_book_signal(book: &mut Handle, place: u64, condition: u64) -> u64;
+    fn zaulinte_book_signal_to(book: &mut Handle, place: u64, condition: u64, waiter: u64) -> u64;
     fn zaulinte_book_pass(book: &mut Handle, place: u64, condition: u64) -> u64;
     fn zaulinte_book_notify(book: &mut Handle, place: u64, condition: u64) -> u64;
     fn zaulinte_book_broadcast(book: &mut Handle, place: u64, condition: u64) -> u64;
@@ -76,6 +77,10 @@ impl Book {
         /// Lets the place inside signal one of Hoare's conditions. Refused: `NoPlace`, `NotInside`, `NoCondition`,
         /// `WrongKind`.
         signal(place: usize, condition: usize) by zaulinte_book_signal;
+        /// Lets the place inside signal one of Hoare's conditions to the place `waiter`. If that place waits on the
+        /// condition, it resumes at once, whoever else waits; else nothing happens, also if there is no such place.
+        /// Refused: `NoPlace`, `NotInside`, `NoCondition`, `WrongKind`.
+        signal_to(place: usize, condition: usize, waiter: usize) by zaulinte_book_signal_to;
         /// Lets the place inside signal one of Hoare's conditions, and leave. Refused: `NoPlace`, `NotInside`,
         /// `NoCondition`, `WrongKind`.
         pass(place: usize, condition: usize) by zaulinte_book_pass;

@@ -122,9 +122,10 @@ impl<T, C: Condition, M: Condition, P: Port> Inside<'_, T, C, M, P> {
         assert!(is_left, "all {all} places wait when place {place} waits on {condition:?}: none is left to signal");
     }
 
+    /// Tests `inv` before a signal, if that resumes a place, as `resumes` returns.
     #[track_caller]
-    pub(crate) fn check_signal(&mut self, condition: C) {
-        if self.is_tested() && self.queue(condition) {
+    pub(crate) fn check_signal(&mut self, condition: C, resumes: impl FnOnce(&mut Self) -> bool) {
+        if self.is_tested() && resumes(self) {
             let (checks, place) = (self.place.inner.checks, self.place.seat.number());
             assert!((checks.inv)(self), "`inv` doesn't hold when place {place} signals {condition:?}");
         }

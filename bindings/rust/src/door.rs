@@ -13,6 +13,7 @@ extern "C" {
     fn zaulinte_door_leave(place: &mut Handle) -> u64;
     fn zaulinte_door_wait(place: &mut Handle, condition: u64, priority: u64) -> u64;
     fn zaulinte_door_signal(place: &mut Handle, condition: u64) -> u64;
+    fn zaulinte_door_signal_to(place: &mut Handle, condition: u64, waiter: u64) -> u64;
     fn zaulinte_door_signal_leave(place: &mut Handle, condition: u64, resumed: &mut u64) -> u64;
     fn zaulinte_door_notify(place: &mut Handle, condition: u64) -> u64;
     fn zaulinte_door_broadcast(place: &mut Handle, condition: u64) -> u64;
@@ -122,6 +123,12 @@ impl Seat {
     /// still inside.
     pub(crate) fn signal(&mut self, condition: usize) -> Next {
         next(unsafe { zaulinte_door_signal(&mut self.handle, condition as u64) })
+    }
+
+    /// Signals the condition to the place `waiter`. If that place waits on it, it is next, whoever else waits, and this
+    /// place is away; else this place is still inside.
+    pub(crate) fn signal_to(&mut self, condition: usize, waiter: usize) -> Next {
+        next(unsafe { zaulinte_door_signal_to(&mut self.handle, condition as u64, waiter as u64) })
     }
 
     /// Signals the condition and leaves, in one step. Sets `has_waited` to true if a place waited on the condition: then

@@ -1,7 +1,7 @@
 //! A place inside, with its acts.
 use crate::checks::Fault;
 use crate::conditions::{Condition, NoConditions};
-use crate::door::Next;
+use crate::door::{Next, Seat};
 use crate::monitor::Own;
 use crate::notes::Does;
 use crate::poison::LockResult;
@@ -51,9 +51,15 @@ impl<'a, T, C: Condition, M: Condition, P: Port> Inside<'a, T, C, M, P> {
         Inside { place, panicked: P::panicking(), stays: PhantomData }
     }
 
+    /// Returns the number of the place that is inside, as [`Place::number`] does. A thread puts it into the data before
+    /// it waits, if a [`signal_to`](Inside::signal_to) is to resume it.
+    pub fn place_number(&self) -> usize {
+        self.place.seat.number()
+    }
+
     /// Waits on one of Hoare's conditions: releases the monitor until a signal resumes this place. A signal resumes the
-    /// waiter of least priority, of equal ones the longest waiting. The data are then as the signaller left them.
-    /// Returns an error if a thread panicked inside.
+    /// waiter of least priority, of equal ones the longest waiting; [`signal_to`](Inside::signal_to) the one that it
+    /// names. The data are then as the signaller left them. Returns an error if a thread panicked inside.
     #[track_caller]
     pub fn wait(&mut self, condition: C, priority: u64) -> LockResult<()> {
         let number = number_of(condition);
@@ -79,17 +85,29 @@ impl<'a, T, C: Condition, M: Condition, P: Port> Inside<'a, T, C, M, P> {
     #[track_caller]
     pub fn signal(&mut self, condition: C) -> LockResult<bool> {
         let number = number_of(condition);
-        self.check_signal(condition);
-        self.own().signaller = self.place.seat.number();
-        self.note_away(Kind::Signal, Does::HasSignalled, number, 0);
-        self.place.inner.vacate();
-        let next = self.place.seat.signal(number);
-        if next.is_some() {
-            self.go_away(next);
+        self.check_signal(condition, |inside| inside.queue(condition));
+        self.place.record(Kind::Signal, number, 0);
+        self.signal_by(number, |seat| seat.signal(number))
+    }
+
+    /// Signals one of Hoare's conditions to the place with the number `waiter`. If that place waits on the condition,
+    /// hands off the monitor to it, whoever else waits, and returns before any place enters. Returns true if it waited
+    /// there; else nothing happens, also if there is no such place. Returns an error if a thread panicked inside.
+    ///
+    /// Use it to end a wait early, since its time is over or a client is gone, or to resume one of many waiters by a
+    /// key: each waiter puts its [`place_number`](Inside::place_number) into the data. The resumed thread finds out by
+    /// the data why it resumes. What `ready` of [`Checks`](crate::Checks) says has to hold for that waiter, which may
+    /// be another than the one that a signal would resume. The other waiters keep their order. Hoare's paper has no
+    /// such call.
+    #[track_caller]
+    pub fn signal_to(&mut self, condition: C, waiter: usize) -> LockResult<bool> {
+        let number = number_of(condition);
+        let waits = self.place.inner.notes.waits(waiter, number);
+        self.check_signal(condition, |_| waits);
+        if waits {
+            self.place.record_signal_to(number, waiter);
         }
-        self.place.inner.occupy();
-        self.place.inner.notes.note_back(self.place.seat.number());
-        self.place.inner.or_poisoned(next.is_some())
+        self.signal_by(number, |seat| seat.signal_to(number, waiter))
     }
 
     /// Signals one of Hoare's conditions as the last act. Returns true if a place waited on it.
@@ -99,7 +117,7 @@ impl<'a, T, C: Condition, M: Condition, P: Port> Inside<'a, T, C, M, P> {
         if self.is_tested() && !self.place.seat.queue(number) {
             return false; // it leaves as it is dropped, with the tests of a leave
         }
-        self.check_signal(condition);
+        self.check_signal(condition, |_| true);
         if self.unwinds() {
             self.poison();
         }
@@ -179,18 +197,30 @@ impl<T, C: Condition, M: Condition, P: Port> Inside<'_, T, C, M, P> {
     }
 
     fn wait_at(&mut self, number: usize, priority: u64) {
-        self.note_away(Kind::Wait, Does::Waits, number, priority);
+        let place = self.place.seat.number();
+        self.place.record(Kind::Wait, number, priority);
+        self.place.inner.notes.note_away(place, Does::Waits, number, priority);
         self.place.inner.vacate();
         let next = self.place.seat.wait(number, priority);
         self.go_away(next);
         self.place.inner.occupy();
-        self.place.inner.notes.note_back(self.place.seat.number());
+        self.place.inner.notes.note_back(place);
     }
 
-    /// Records an act by which this place may go away, and notes why.
-    fn note_away(&self, kind: Kind, does: Does, number: usize, priority: u64) {
-        self.place.record(kind, number, priority);
-        self.place.inner.notes.note_away(self.place.seat.number(), does, number, priority);
+    /// Signals by `step`, which returns the place that it resumes, if any. Returns true if it resumed one, in an error
+    /// if a thread panicked inside.
+    fn signal_by(&mut self, number: usize, step: impl FnOnce(&mut Seat) -> Next) -> LockResult<bool> {
+        let place = self.place.seat.number();
+        self.own().signaller = place;
+        self.place.inner.notes.note_away(place, Does::HasSignalled, number, 0);
+        self.place.inner.vacate();
+        let next = step(&mut self.place.seat);
+        if next.is_some() {
+            self.go_away(next);
+        }
+        self.place.inner.occupy();
+        self.place.inner.notes.note_back(place);
+        self.place.inner.or_poisoned(next.is_some())
     }
 
     /// Blocks, after a step by which this place went away, until the place is inside again.

@@ -181,6 +181,10 @@ impl<T: Send, C: Condition, M: Condition, P: Port> Monitor<T, C, M, P> {
     /// Returns the recording as a script, which the script program replays and the page draws. If the ring overflowed
     /// it begins with acts that bring a new monitor into the state in which the ring begins. Returns nothing if the
     /// monitor doesn't record, or if acts are recorded all the time while it reads. Any thread may call it at any time.
+    ///
+    /// A script has no line for [`Inside::signal_to`]. If that resumes the place that a signal would resume, it is
+    /// recorded as a signal. If it resumes another place, the recording begins anew, in the state after that act, and
+    /// the acts before it are lost. If it resumes none, it isn't recorded.
     pub fn recording(&self) -> Option<String> {
         let lines = self.0.recorder.get()?.lines(self.0.notes.inside())?;
         let (places, conditions) = (self.0.parking.places(), count_of_door::<C, M>());
@@ -272,6 +276,17 @@ impl<T, C, M, P: Port> Place<T, C, M, P> {
     pub(crate) fn record(&self, kind: Kind, condition: usize, priority: u64) {
         if let Some(recording) = self.inner.recorder.get() {
             recording.note(Act { kind, place: self.seat.number(), condition, priority });
+        }
+    }
+
+    /// Records a signal of this place, which is inside, to a place that waits on the condition, before its step.
+    pub(crate) fn record_signal_to(&self, condition: usize, waiter: usize) {
+        let Some(recording) = self.inner.recorder.get() else { return };
+        let act = Act { kind: Kind::Signal, place: self.seat.number(), condition, priority: 0 };
+        if self.inner.notes.is_first(waiter, condition) {
+            recording.note(act);
+        } else {
+            recording.begin_anew(act, waiter);
         }
     }
 

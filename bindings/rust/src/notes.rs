@@ -10,7 +10,7 @@ use alloc::vec::Vec;
 use core::fmt;
 use core::iter::successors;
 use core::marker::PhantomData;
-use core::sync::atomic::{AtomicU32, AtomicU64, AtomicU8, AtomicUsize, Ordering::Relaxed};
+use core::sync::atomic::{AtomicU64, AtomicU8, AtomicUsize, Ordering::Relaxed};
 
 /// What a place does.
 #[derive(Clone, Copy, PartialEq)]
@@ -34,7 +34,7 @@ struct Note {
     does: AtomicU8,
     condition: AtomicU8,
     /// How many places were sent away, or notified, before it was.
-    order: AtomicU32,
+    order: AtomicU64,
     priority: AtomicU64,
     thread: AtomicUsize,
 }
@@ -50,9 +50,8 @@ impl Note {
 
     /// Returns true if its place resumes before that of `other`, which is away for the same reason.
     fn is_before(&self, other: &Note) -> bool {
-        let (mine, its) = (self.priority.load(Relaxed), other.priority.load(Relaxed));
-        let later = self.order.load(Relaxed).wrapping_sub(other.order.load(Relaxed));
-        mine < its || (mine == its && later > u32::MAX / 2)
+        let turn = |note: &Note| (note.priority.load(Relaxed), note.order.load(Relaxed));
+        turn(self) < turn(other)
     }
 }
 
@@ -60,14 +59,14 @@ impl Note {
 pub(crate) struct Notes {
     all: Vec<Note>,
     /// The order of the next place that is sent away or notified.
-    order: AtomicU32,
+    order: AtomicU64,
 }
 
 impl Notes {
     pub(crate) fn new(places: usize) -> Result<Notes, Refused> {
         let mut all = room_for(places)?;
         all.resize_with(places, Note::default);
-        Ok(Notes { all, order: AtomicU32::new(0) })
+        Ok(Notes { all, order: AtomicU64::new(0) })
     }
 
     /// Notes that a place enters, is inside or is outside, by the calling thread with this number.
@@ -80,7 +79,7 @@ impl Notes {
     /// Notes, by the place inside, why a place will be away.
     pub(crate) fn note_away(&self, place: usize, does: Does, condition: usize, priority: u64) {
         let (note, order) = (&self.all[place], self.order.load(Relaxed));
-        self.order.store(order.wrapping_add(1), Relaxed);
+        self.order.store(order + 1, Relaxed);
         note.condition.store(condition as u8, Relaxed);
         note.priority.store(priority, Relaxed);
         note.order.store(order, Relaxed);
@@ -107,6 +106,17 @@ impl Notes {
         let is_one = |note: &Note| note.does() == does && note.is_on(condition) && is_later(note);
         let numbers = (0..self.all.len()).filter(|&place| is_one(&self.all[place]));
         numbers.reduce(|first, place| if self.all[place].is_before(&self.all[first]) { place } else { first })
+    }
+
+    /// Returns true if the place waits on one of Hoare's conditions. Exact for a caller that is inside: only the waiter
+    /// itself writes the note of such a wait, and once it is resumed it does so before it acts.
+    pub(crate) fn waits(&self, place: usize, condition: usize) -> bool {
+        self.all.get(place).is_some_and(|note| note.does() == Does::Waits && note.is_on(Some(condition)))
+    }
+
+    /// Returns true if a signal would resume the place, which waits on one of Hoare's conditions. Exact, as `waits`.
+    pub(crate) fn is_first(&self, place: usize, condition: usize) -> bool {
+        self.next_away(Does::Waits, Some(condition), None) == Some(place)
     }
 
     /// Returns the place that is inside, if there is one.

@@ -4,12 +4,16 @@
 //! noted with the first act of its visit: no other place acts in between. If the ring is full, its oldest act is first
 //! taken into `start`, the state in which the ring begins. A reader copies all of it, and does so again if an act was
 //! noted meanwhile: `version` is odd while one is.
+//!
+//! A script has no line for a signal to a given place. If the waiter is the one that a signal would resume, the act is
+//! noted as a signal. Else all acts of the ring and then this one are taken into `start`, and the ring begins after it.
 use crate::refused::room_for;
 use crate::Refused;
 use alloc::boxed::Box;
 use alloc::string::String;
 use alloc::vec::Vec;
 use core::fmt::{self, Write};
+use core::ops::Range;
 use core::ptr;
 use core::sync::atomic::{fence, AtomicPtr, AtomicU64, Ordering::Acquire, Ordering::Relaxed, Ordering::Release};
 
@@ -197,6 +201,8 @@ pub(crate) struct Recording {
     version: AtomicU64,
     /// The number of acts that were noted.
     end: AtomicU64,
+    /// The number of acts when the recording last began anew: the ring has none of these.
+    anew: AtomicU64,
     /// The places whose entry was noted, and that haven't left since.
     entered: AtomicU64,
     start: [[AtomicU64; 3]; MOST_PLACES],
@@ -220,6 +226,7 @@ impl Recording {
         Ok(Recording {
             version: AtomicU64::new(0),
             end: AtomicU64::new(0),
+            anew: AtomicU64::new(0),
             entered: AtomicU64::new(0),
             start: core::array::from_fn(|_| Default::default()),
             ring,
@@ -229,6 +236,16 @@ impl Recording {
     /// Notes an act of the place inside.
     #[cold]
     pub(crate) fn note(&self, act: Act) {
+        self.note_by(act, || self.add(act));
+    }
+
+    /// Begins anew, after an act of the place inside: a signal to the place `waiter`, which waits on the condition.
+    #[cold]
+    pub(crate) fn begin_anew(&self, act: Act, waiter: usize) {
+        self.note_by(act, || self.take_all(act, waiter));
+    }
+
+    fn note_by(&self, act: Act, add: impl FnOnce()) {
         let version = self.version.load(Relaxed);
         self.version.store(version + 1, Relaxed);
         fence(Release); // a reader that sees what is noted below sees that the version is odd, at its second read
@@ -236,26 +253,51 @@ impl Recording {
         if entered & mine == 0 {
             self.add(Act::on(Kind::Enter, act.place, 0));
         }
-        self.add(act);
+        add();
         let leaves = matches!(act.kind, Kind::Leave | Kind::Pass);
         self.entered.store(if leaves { entered & !mine } else { entered | mine }, Relaxed);
         self.version.store(version + 2, Release); // a reader that sees this version sees all that was noted before
     }
 
     fn add(&self, act: Act) {
-        let (end, size) = (self.end.load(Relaxed), self.ring.len() as u64);
-        let at = &self.ring[(end % size) as usize];
-        if end >= size {
+        let (kept, size) = (self.kept(), self.ring.len() as u64);
+        if kept.end - kept.start == size {
             let mut state = self.state();
-            state.take(Act::of(load(at)), end - size);
-            self.start.iter().zip(state.0).for_each(|(words, one)| store(words, one.words()));
+            state.take(Act::of(load(self.at(kept.start))), kept.start);
+            self.begin_in(state);
         }
-        store(at, act.words());
-        self.end.store(end + 1, Relaxed);
+        store(self.at(kept.end), act.words());
+        self.end.store(kept.end + 1, Relaxed);
+    }
+
+    /// Takes all acts of the ring into the state in which it begins, then the act, a signal to the place `waiter`.
+    fn take_all(&self, act: Act, waiter: usize) {
+        let (kept, mut state) = (self.kept(), self.state());
+        kept.clone().for_each(|number| state.take(Act::of(load(self.at(number))), number));
+        state.hand(act, Is::Signaller, kept.end * MOST_PLACES as u64, Some(waiter));
+        self.begin_in(state);
+        self.end.store(kept.end + 1, Relaxed);
+        self.anew.store(kept.end + 1, Relaxed);
+    }
+
+    /// Returns the numbers of the acts that the ring has.
+    fn kept(&self) -> Range<u64> {
+        let end = self.end.load(Relaxed);
+        self.anew.load(Relaxed).max(end.saturating_sub(self.ring.len() as u64))..end
+    }
+
+    /// Returns where the ring has the act with this number.
+    fn at(&self, number: u64) -> &[AtomicU64; 2] {
+        &self.ring[(number % self.ring.len() as u64) as usize]
     }
 
     fn state(&self) -> State {
         State(core::array::from_fn(|place| Standing::of(load(&self.start[place]))))
+    }
+
+    /// Lets the ring begin in this state.
+    fn begin_in(&self, state: State) {
+        self.start.iter().zip(state.0).for_each(|(words, one)| store(words, one.words()));
     }
 
     /// Returns the acts as lines, after those by which a new monitor comes into the state in which the ring begins, and
@@ -272,8 +314,8 @@ impl Recording {
     /// Returns the acts, and `entered`, unless an act was noted meanwhile.
     fn copy(&self) -> Option<(Vec<Act>, u64)> {
         let (version, entered) = (self.version.load(Acquire), self.entered.load(Relaxed));
-        let (end, size, state) = (self.end.load(Relaxed), self.ring.len() as u64, self.state());
-        let words: Vec<_> = (end.saturating_sub(size)..end).map(|i| load(&self.ring[(i % size) as usize])).collect();
+        let state = self.state();
+        let words: Vec<_> = self.kept().map(|number| load(self.at(number))).collect();
         fence(Acquire); // the version is read once more after all that was read above
         let is_whole = version % 2 == 0 && self.version.load(Relaxed) == version;
         is_whole.then(|| (state.acts().into_iter().chain(words.into_iter().map(Act::of)).collect(), entered))

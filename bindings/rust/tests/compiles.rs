@@ -82,6 +82,10 @@ E0308 a_wait_on_another_enum: conditions! { enum A { B } } let mut i = p[0].ente
 E0308 a_wait_in_a_monitor_for_data_alone: let (_, mut p) = Monitor::<u32>::new(0, 1).unwrap(); \
     let mut i = p[0].enter().unwrap(); let _ = i.wait(When::Ever, 0);
 E0308 a_signal_on_a_mesa_condition: let mut i = p[0].enter().unwrap(); let _ = i.signal(Mesa::Other);
+E0308 a_signal_to_a_place_on_a_mesa_condition: let mut i = p[0].enter().unwrap(); let _ = i.signal_to(Mesa::Other, 1);
+E0308 a_place_and_a_condition_are_exchanged: let mut i = p[0].enter().unwrap(); let _ = i.signal_to(1, When::Ever);
+E0499 data_are_kept_over_a_signal_to_a_place: let mut i = p[0].enter().unwrap(); let r = &mut *i; \
+    _ = i.signal_to(When::Ever, 1); *r = 1;
 E0308 a_notify_on_a_hoare_condition: let mut i = p[0].enter().unwrap(); i.notify(When::Ever);
 E0308 a_check_captures: let k = 3; let c = Checks::<u32, When> { inv: |d| *d < k, ..Checks::default() };
 no a_condition_has_a_number: conditions! { enum Bad { A = 5 } }

@@ -1,8 +1,8 @@
-//! What is refused, the state that a panic leaves, and what a check reports.
+//! What is refused, the state that a panic leaves, what a check reports, and whom a signal to a given place resumes.
 use std::panic::{catch_unwind, AssertUnwindSafe};
 use std::sync::PoisonError;
-use std::thread;
-use zaulinte::{conditions, Inside, Monitor, Place, Refused};
+use std::thread::{self, JoinHandle};
+use zaulinte::{conditions, Checks, Inside, Monitor, Place, Refused};
 
 conditions! { enum When { Ever, Never } }
 conditions! { enum Mesa { Other } }
@@ -46,6 +46,7 @@ fn a_condition_past_its_count_is_refused() {
     }
     assert!(panics::<Bad, When>(|mut inside| assert!(!inside.queue(Bad))));
     assert!(panics::<Bad, When>(|mut inside| drop(inside.signal(Bad))));
+    assert!(panics::<Bad, When>(|mut inside| drop(inside.signal_to(Bad, 0))));
     assert!(panics::<Bad, When>(|inside| assert!(!inside.signal_leave(Bad))));
     assert!(panics::<Bad, When>(|mut inside| drop(inside.wait(Bad, 0))));
     assert!(panics::<When, Bad>(|mut inside| assert!(!inside.notify(Bad))));
@@ -129,6 +130,9 @@ fn hears_of_a_panic(act: fn(&mut Inside<'_, bool, When, Mesa>) -> bool) -> bool 
     assert!(catch_unwind(panics).is_err());
     let mut inside = signals.enter().unwrap_or_else(PoisonError::into_inner);
     inside.notify(Mesa::Other);
+    assert!(inside.signal_to(When::Never, 0).is_err_and(|has_waited| !has_waited.into_inner()));
+    let waits = inside.queue(When::Ever);
+    assert!(inside.signal_to(When::Ever, 0).is_err_and(|has_waited| has_waited.into_inner() == waits));
     assert!(inside.signal(When::Ever).is_err());
     drop(inside);
     waiter.join().unwrap()
@@ -138,6 +142,113 @@ fn hears_of_a_panic(act: fn(&mut Inside<'_, bool, When, Mesa>) -> bool) -> bool 
 fn a_waiter_and_a_signaller_hear_of_a_panic() {
     assert!(hears_of_a_panic(|inside| inside.wait(When::Ever, 0).is_err()));
     assert!(hears_of_a_panic(|inside| inside.wait_mesa(Mesa::Other, 0).is_err()));
+}
+
+/// What waiters leave as they resume.
+#[derive(Default)]
+struct Served {
+    /// The places that resumed, in order.
+    places: Vec<usize>,
+    /// What a waiter may take.
+    items: usize,
+    /// The waiter whose wait is ended without an item.
+    ended: Option<usize>,
+}
+
+type Waiter = JoinHandle<bool>;
+
+/// Makes places 1, 2 .. wait on Ever in this order, one for each priority. A waiter that is resumed takes an item and
+/// returns true, unless its wait was ended. Returns place 0, which is outside.
+fn waiters(priorities: &[u64]) -> (Place<Served, When>, Vec<Waiter>) {
+    let checks = Checks {
+        inv: |_: &Served| true,
+        rest: |served, all| served.ended.is_none() && (served.items == 0 || all.count(When::Ever) == 0),
+        ready: |_, _, served, _| served.items > 0 || served.ended.is_some(),
+    };
+    let (_monitor, places) = Monitor::checked(Served::default(), priorities.len() + 1, checks).unwrap();
+    let mut places = places.into_iter();
+    let mut here = places.next().unwrap();
+    let wait = |(mut place, priority): (Place<Served, When>, u64)| {
+        let number = place.number();
+        let waiter = thread::spawn(move || {
+            let mut inside = place.enter().unwrap();
+            inside.wait(When::Ever, priority).unwrap();
+            inside.places.push(number);
+            let has_item = inside.ended.take().is_none_or(|ended| ended != number);
+            inside.items -= usize::from(has_item);
+            has_item
+        });
+        while here.enter().unwrap().count(When::Ever) < number {
+            thread::yield_now();
+        }
+        waiter
+    };
+    let waiters = places.zip(priorities.iter().copied()).map(wait).collect();
+    (here, waiters)
+}
+
+/// Gives an item to each place that waits, in the order in which a signal resumes them.
+fn serve_all(inside: &mut Inside<'_, Served, When>) {
+    while inside.queue(When::Ever) {
+        inside.items += 1;
+        assert!(inside.signal(When::Ever).unwrap());
+    }
+}
+
+#[test]
+fn a_signal_to_a_place_resumes_that_one_and_the_others_keep_their_order() {
+    let rows =
+        [([5, 5, 5], 2, [2, 1, 3]), ([5, 5, 5], 3, [3, 1, 2]), ([7, 6, 5], 1, [1, 3, 2]), ([9, 5, 7], 2, [2, 3, 1])];
+    for (priorities, waiter, order) in rows {
+        let (mut place, waiters) = waiters(&priorities);
+        let mut inside = place.enter().unwrap();
+        assert_eq!(inside.place_number(), 0);
+        inside.items = 1;
+        assert!(inside.signal_to(When::Ever, waiter).unwrap());
+        let left = inside.count(When::Ever);
+        assert_eq!((&*inside.places, left), (&[waiter][..], 2)); // it resumed before this place was back
+        serve_all(&mut inside);
+        assert_eq!(inside.places, order);
+        drop(inside);
+        assert!(waiters.into_iter().all(|waiter| waiter.join().unwrap()));
+    }
+}
+
+#[test]
+fn a_signal_to_a_place_that_does_not_wait_there_changes_nothing() {
+    let (mut place, waiters) = waiters(&[5, 5]);
+    let mut inside = place.enter().unwrap();
+    inside.items = 1;
+    assert!(inside.signal_to(When::Ever, 2).unwrap());
+    // it no longer waits; itself; no such place; another condition
+    for (condition, waiter) in [(When::Ever, 2), (When::Ever, 0), (When::Never, 1)] {
+        assert!(!inside.signal_to(condition, waiter).unwrap());
+    }
+    for none in [3, 63, 64, 255, 256, 257, 1 << 32, (1 << 32) + 1, usize::MAX] {
+        assert!(!inside.signal_to(When::Ever, none).unwrap());
+    }
+    let left = inside.count(When::Ever);
+    assert_eq!((&*inside.places, left), (&[2][..], 1));
+    serve_all(&mut inside);
+    assert_eq!(inside.places, [2, 1]);
+    drop(inside);
+    waiters.into_iter().for_each(|waiter| assert!(waiter.join().unwrap()));
+    assert!(!place.enter().unwrap().signal_to(When::Ever, 1).unwrap()); // it is outside
+}
+
+// The waiters come in order of arrival, and the limit of the second ends first.
+#[test]
+fn a_limit_ends_a_wait_and_keeps_the_order_of_arrival() {
+    let (mut place, waiters) = waiters(&[0, 0, 0]);
+    let mut inside = place.enter().unwrap();
+    inside.ended = Some(2);
+    assert!(inside.signal_to(When::Ever, 2).unwrap());
+    assert_eq!((&*inside.places, inside.ended), (&[2][..], None));
+    serve_all(&mut inside);
+    assert_eq!(inside.places, [2, 1, 3]);
+    drop(inside);
+    let has_item: Vec<bool> = waiters.into_iter().map(|waiter| waiter.join().unwrap()).collect();
+    assert_eq!(has_item, [true, false, true]);
 }
 
 #[test]
@@ -227,6 +338,7 @@ fn a_panic_names_the_line_of_the_caller() {
     let here = |line: u32| format!("{}:{line}", file!());
     assert_eq!(line_of(|mut inside| _ = inside.queue(Bad)), here(line!()));
     assert_eq!(line_of(|mut inside| _ = inside.signal(Bad)), here(line!()));
+    assert_eq!(line_of(|mut inside| _ = inside.signal_to(Bad, 0)), here(line!()));
     assert_eq!(line_of(|inside| _ = inside.signal_leave(Bad)), here(line!()));
     assert_eq!(line_of(|mut inside| _ = inside.wait(Bad, 0)), here(line!()));
     assert_eq!(line_of(|mut inside| _ = inside.notify(Bad)), here(line!()));
@@ -289,20 +401,24 @@ fn message_of(data: u32, act: Act) -> String {
 #[cfg(debug_assertions)]
 #[test]
 fn a_check_names_the_act_and_poisons() {
-    let rows: [(u32, Act, &str); 14] = [
+    let rows: [(u32, Act, &str); 18] = [
         (1, |i| drop(i), "`inv` doesn't hold when place 1 leaves"),
         (1, |mut i| drop(i.wait(When::Ever, 0)), "`inv` doesn't hold when place 1 waits on Ever"),
         (1, |mut i| drop(i.wait_mesa(Mesa::Other, 0)), "`inv` doesn't hold when place 1 waits on Other"),
         (1, |mut i| drop(i.signal(When::Ever)), "`inv` doesn't hold when place 1 signals Ever"),
         (1, |i| assert!(i.signal_leave(When::Ever)), "`inv` doesn't hold when place 1 signals Ever"),
+        (1, |mut i| drop(i.signal_to(When::Ever, 0)), "`inv` doesn't hold when place 1 signals Ever"),
         (1, |mut i| drop(i.signal(When::Never)), "`inv` doesn't hold when place 1 leaves"), // a signal to no place
+        (1, |mut i| drop(i.signal_to(When::Ever, 2)), "`inv` doesn't hold when place 1 leaves"), // the same
         (2, |i| drop(i), "`rest` doesn't hold when place 1 leaves, and there wait: {Ever: 1 of 7, Other: 1 of 5}"),
         (2, |mut i| drop(i.wait(When::Never, 0)), "`rest` doesn't hold when place 1 waits on Never"),
         (3, |mut i| drop(i.wait(When::Never, 4)), "1 Some(7) 1, {Ever: 1 of 7, Never: 1 of 4, Other: 1 of 5}"),
         (3, |mut i| drop(i.wait(When::Ever, 9)), "2 Some(7) 1, {Ever: 2 of 7, Other: 1 of 5}"),
         (3, |mut i| drop(i.wait_mesa(Mesa::Other, 3)), "1 Some(7) 2, {Ever: 1 of 7, Other: 2 of 3}"),
         (4, |mut i| drop(i.signal(When::Ever)), "`ready` of Ever doesn't hold at the signal of place 1"),
+        (4, |mut i| drop(i.signal_to(When::Ever, 0)), "`ready` of Ever doesn't hold at the signal of place 1"),
         (4, |i| assert!(i.signal_leave(When::Ever)), "`ready` of Ever doesn't hold at the signal of place 1"),
+        (5, |mut i| drop(i.signal_to(When::Ever, 0)), "Ever 7, {Other: 1 of 5}"),
         (5, |i| assert!(i.signal_leave(When::Ever)), "Ever 7, {Other: 1 of 5}"),
     ];
     for (data, act, message) in rows {

@@ -33,6 +33,8 @@ unsafe impl zaulinte::Port for Port {
 struct Log {
     text: String,
     data: u64,
+    /// The condition on which a place waits, or was notified.
+    waits_on: [Option<u64>; WORKERS + 1],
     finished: usize,
 }
 
@@ -89,18 +91,37 @@ fn calls(inside: &mut Inside<'_>, me: u64, all: bool) {
 
 fn waits(inside: &mut Inside<'_>, me: u64, c: u64, priority: u64) {
     inside.put("wait", &[me, c, priority]);
+    let number = inside.place_number();
+    inside.waits_on[number] = Some(c);
     if c < MESA as u64 {
         inside.wait(hoare(c), priority).unwrap();
     } else {
         inside.wait_mesa(Mesa::D, priority).unwrap();
     }
     inside.put("resume", &[me, c]);
+    inside.waits_on[number] = None;
 }
 
 fn signals(inside: &mut Inside<'_>, me: u64, c: u64) {
     let was = inside.queue(hoare(c));
     inside.put(if was { "signal" } else { "empty" }, &[me, c]);
     assert_eq!(inside.signal(hoare(c)).unwrap(), was);
+    if was {
+        inside.put("back", &[me]);
+    }
+}
+
+/// Draws a place, or the number after the last; of two draws one is of a place that waits on the condition, if any does.
+fn drawn_place(inside: &Inside<'_>, c: u64, lot: usize) -> usize {
+    let (any, is_any) = (lot / 2 % (WORKERS + 2), lot % 2 == 0);
+    let mut from_there = (0..=WORKERS).map(|k| (any + k) % (WORKERS + 1));
+    from_there.find(|&place| !is_any && inside.waits_on[place] == Some(c)).unwrap_or(any)
+}
+
+fn signals_to(inside: &mut Inside<'_>, me: u64, c: u64, waiter: usize) {
+    let was = inside.waits_on.get(waiter) == Some(&Some(c));
+    inside.put(if was { "signalto" } else { "absent" }, &[me, c, waiter as u64]);
+    assert_eq!(inside.signal_to(hoare(c), waiter).unwrap(), was);
     if was {
         inside.put("back", &[me]);
     }
@@ -126,8 +147,11 @@ fn acts(mut inside: Inside<'_>, me: u64, seed: &mut u64) {
             waits(&mut inside, me, c, lot / 64 % 4);
         } else if c == MESA as u64 {
             calls(&mut inside, me, lot / 64 % 2 == 1);
-        } else {
+        } else if lot / 64 % 2 == 1 {
             signals(&mut inside, me, c);
+        } else {
+            let waiter = drawn_place(&inside, c, lot as usize / 128);
+            signals_to(&mut inside, me, c, waiter);
         }
         inside.data += 1;
     }

@@ -159,7 +159,7 @@ static void barriers(void) {
 enum { READERS = 70, WRITERS = 10, TURNS = 100 };
 static readers_writers lock;
 static uint64_t left, right;
-static char order[9];
+static char order[20];
 static void *reads(void *unused) {
     for (int n = 0; n < TURNS; n++) {
         start_read(&lock);
@@ -230,7 +230,7 @@ static void readers_and_writers(void) {
 }
 
 /* Limits: STORES monitors with one clock. A wait ends not before its time, and soon after it; each item is taken once;
- * and the clock thread sleeps until the next deadline. */
+ * the clock thread sleeps until the next deadline; and a limit, or a cancel, changes the order of no other wait. */
 enum { STORES = 3, OF_EACH = 4, WAITS = 12, GIVEN = 20, ITEM = 0, PLACES = 64, CLOCK = 63, SOON = 10000, FAR = 20000 };
 typedef struct store {
     zaulinte_monitor m;
@@ -242,23 +242,43 @@ static store stores[STORES];
 static limit_clock timer;
 static _Atomic uint64_t got, over;
 static bool store_rest(void *context, const zaulinte_waiting *waiting) {
-    return !((store *)context)->items || !waiting->count[ITEM];
+    const store *s = context;
+    return !s->on_item.by_clock && (!s->items || !waiting->count[ITEM]);
 }
 static bool store_ready(void *context, uint32_t condition, uint64_t priority, const zaulinte_waiting *waiting) {
     const store *s = context;
     (void)condition, (void)priority, (void)waiting;
-    return s->items || s->on_item.by_clock;
+    return !s->items == s->on_item.by_clock;
+}
+/* A thread that takes an item, if it comes before the deadline. With a name it writes that into `order`, after a `-` if
+ * its wait ended early. */
+typedef struct taker {
+    const char *name;
+    uint64_t priority, deadline; /* or PLAIN: it waits by `zaulinte_wait` */
+    uint32_t place;
+} taker;
+static const uint64_t PLAIN = UINT64_MAX - 1;
+static _Atomic uint64_t takers_inside;
+static bool waits_for_item(store *s, taker *t) {
+    takers_inside++;
+    if (t->deadline != PLAIN) return limit_wait(&s->on_item, t->place, t->priority, t->deadline);
+    ZAULINTE_CHECK(zaulinte_wait(&s->m, t->place, ITEM, t->priority));
+    return true;
+}
+static bool takes_by(store *s, taker *t) {
+    ZAULINTE_CHECK(zaulinte_borrow(&s->takers, &t->place));
+    ZAULINTE_CHECK(zaulinte_enter(&s->m, t->place));
+    bool is_there = s->items > 0 || waits_for_item(s, t);
+    if (is_there) IS(s->items-- > 0, true);
+    if (t->name) strcat(strcat(order, is_there ? "" : "-"), t->name);
+    ZAULINTE_CHECK(zaulinte_leave(&s->m, t->place));
+    ZAULINTE_CHECK(zaulinte_give_back(&s->takers, t->place));
+    return is_there;
 }
 static bool takes_item(store *s, uint64_t deadline) {
-    uint32_t place;
     uint64_t from = limit_now();
-    ZAULINTE_CHECK(zaulinte_borrow(&s->takers, &place));
-    ZAULINTE_CHECK(zaulinte_enter(&s->m, place));
-    bool is_there = s->items > 0 || limit_wait(&s->on_item, place, deadline);
-    if (is_there) IS(s->items-- > 0, true);
+    bool is_there = takes_by(s, &(taker){.deadline = deadline});
     uint64_t now = limit_now();
-    ZAULINTE_CHECK(zaulinte_leave(&s->m, place));
-    ZAULINTE_CHECK(zaulinte_give_back(&s->takers, place));
     if (!is_there) IS(now >= deadline && now - from < SOON * UINT64_C(1000000), true);
     return is_there;
 }
@@ -315,32 +335,64 @@ static void take_in_rounds(void) {
     joins(ids, STORES);
     barrier_free(&meets);
 }
-/* Waits of the first store end in the order in which they are due; one of the second ends meanwhile. */
-static void *takes_before_far(void *which) {
-    IS(takes_item(&stores[0], limit_deadline(FAR)), true);
-    strcat(order, which);
-    return NULL;
-}
-static void *takes_at_last(void *which) {
-    IS(takes_item(&stores[0], UINT64_MAX), true);
-    strcat(order, which);
-    return NULL;
-}
-static void take_in_order(void) {
-    pthread_t ids[2];
-    uint64_t woken = timer.wakes;
+/* Three takers of the first store begin to wait, one after the other. */
+static void *takes_in_order(void *with) { return takes_by(&stores[0], with), NULL; }
+static void begin(taker *t, pthread_t *ids) {
     *order = 0;
-    starts(&ids[0], 1, takes_at_last, "l");
-    until_waiting(&stores[0].m, &stores[0].givers, ITEM, 1);
-    starts(&ids[1], 1, takes_before_far, "f");
+    takers_inside = 0;
+    for (int k = 0; k < 3; k++) {
+        starts(&ids[k], 1, takes_in_order, &t[k]);
+        while (takers_inside <= (uint64_t)k) sched_yield();
+    }
+}
+/* Those that still wait get an item each. */
+static void end(pthread_t *ids, int items, const char *wanted) {
+    for (int k = 0; k < items; k++) gives_item(&stores[0]);
+    joins(ids, 3);
+    if (strcmp(order, wanted)) fprintf(stderr, "the order is %s and not %s\n", order, wanted);
+    IS(strcmp(order, wanted), 0);
+}
+static bool cancels(uint32_t waiter) {
+    store *s = &stores[0];
+    uint32_t place;
+    ZAULINTE_CHECK(zaulinte_borrow(&s->givers, &place));
+    ZAULINTE_CHECK(zaulinte_enter(&s->m, place));
+    bool did = limit_cancel(&s->on_item, place, waiter);
+    ZAULINTE_CHECK(zaulinte_leave(&s->m, place));
+    ZAULINTE_CHECK(zaulinte_give_back(&s->givers, place));
+    return did;
+}
+static void take_in_order(const taker *of, const char *wanted) {
+    pthread_t ids[3];
+    taker t[3] = {of[0], of[1], of[2]};
+    begin(t, ids);
+    end(ids, 3, wanted);
+}
+/* The wait of the second ends early: by its limit, or by a cancel if that is far. */
+static void take_without_second(taker *t, const char *wanted) {
+    pthread_t ids[3];
+    begin(t, ids);
+    if (t[1].deadline > limit_deadline(SOON)) {
+        until_waiting(&stores[0].m, &stores[0].givers, ITEM, 3);
+        IS(cancels(t[1].place), true);
+    }
     until_waiting(&stores[0].m, &stores[0].givers, ITEM, 2);
-    IS(takes_item(&stores[1], limit_deadline(200)), false);
-    IS(timer.wakes - woken <= 3, true);
-    gives_item(&stores[0]);
-    joins(&ids[1], 1);
-    gives_item(&stores[0]);
-    joins(&ids[0], 1);
-    IS(strcmp(order, "fl"), 0);
+    for (uint32_t k = 0; k <= 64; k++)
+        if (k != t[0].place && k != t[2].place) IS(cancels(k), false);
+    end(ids, 2, wanted);
+}
+static void keep_order(void) {
+    uint64_t far = limit_deadline(2 * FAR), before = limit_deadline(FAR), woken = timer.wakes, never = UINT64_MAX;
+    take_in_order((taker[]){{"a", 7, far, 0}, {"b", 7, before, 0}, {"c", 7, never, 0}}, "abc");
+    take_in_order((taker[]){{"a", 5, before, 0}, {"b", 1, never, 0}, {"c", 3, far, 0}}, "bca");
+    take_in_order((taker[]){{"a", 0, never, 0}, {"b", 0, PLAIN, 0}, {"c", 0, before, 0}}, "abc");
+    IS(timer.wakes - woken <= 2, true);
+    take_without_second((taker[]){{"a", 0, never, 0}, {"b", 0, limit_deadline(30), 0}, {"c", 0, far, 0}}, "-bac");
+    take_without_second((taker[]){{"a", 6, far, 0}, {"b", 7, limit_deadline(30), 0}, {"c", 5, never, 0}}, "-bca");
+    IS(timer.wakes - woken <= 6, true);
+    take_without_second((taker[]){{"a", 0, before, 0}, {"b", 0, far, 0}, {"c", 0, never, 0}}, "-bac");
+    take_without_second((taker[]){{"a", 2, before, 0}, {"b", 3, never, 0}, {"c", 1, far, 0}}, "-bca");
+    IS(timer.wakes - woken <= 6, true);
 }
 static void limits(void) {
     for (int k = 0; k < STORES; k++) {
@@ -353,7 +405,7 @@ static void limits(void) {
     }
     IS((uint64_t)limit_clock_start(&timer), 0);
     IS(takes_item(&stores[0], 0), false);
-    take_in_order();
+    keep_order();
     take_in_rounds();
     take_items(false);
     take_items(true);

@@ -230,21 +230,30 @@ class limited {
         return !s.is_over && (s.items == 0 || w.count(may::take) == 0);
     }
     static bool ready(const store &s, may, std::uint64_t, const monitor::waiting &) {
-        return s.items > 0 || s.is_over;
+        return (s.items > 0) != s.is_over;
     }
 
   public:
     explicit limited(parts::limit_clock &clock) : limit(clock, m, may::take, 63, &store::is_over) {
         m.check({nullptr, rest, ready});
     }
-    bool take(clock_time deadline) {
+    // Takes an item, if it comes before the deadline. Writes the number of its place before it waits.
+    bool take(clock_time deadline, std::uint64_t priority = 0, unsigned *place = nullptr) {
         auto in = takers.enter();
-        if (in->items == 0 && !limit.wait(in, deadline)) {
-            is(std::chrono::steady_clock::now() >= deadline);
-            return false;
-        }
+        if (place) *place = in.place_number();
+        if (in->items == 0 && !limit.wait(in, deadline, priority)) return false;
         in->items--;
         return true;
+    }
+    // Takes an item without a limit, by a wait of the monitor.
+    void take_at_last() {
+        auto in = takers.enter();
+        if (in->items == 0) in.wait(may::take);
+        in->items--;
+    }
+    bool cancel(unsigned place) {
+        auto in = givers.enter();
+        return limit.cancel(in, place);
     }
     void give() {
         auto in = givers.enter();
@@ -252,36 +261,57 @@ class limited {
         in.signal_leave(may::take);
     }
     void await(unsigned waiters) {
-        while (givers.enter().count(may::take) < waiters) std::this_thread::yield();
+        while (givers.enter().count(may::take) != waiters) std::this_thread::yield();
     }
 };
-// Of the waiters the one that is due first gets an item. Meanwhile limits end in their time, with or without waiters
-// that are due later, before them or after them.
-static void limits_in_order() {
-    constexpr int hour = 3600000;
+constexpr int hour = 3600000;
+// The waiters get items in the order of their arrival, or by their priorities, whichever is due first. Meanwhile limits
+// end in their time, with or without waiters that are due later, before them or after them.
+static void limits_in_order(std::vector<std::uint64_t> priorities, std::vector<unsigned> turns) {
     parts::limit_clock clock;
     limited s(clock);
     std::atomic<unsigned> taken{0};
-    auto takes = [&](clock_time deadline, unsigned turn) {
-        return [&s, &taken, deadline, turn](unsigned) { is(s.take(deadline) && taken++ == turn); };
+    auto takes = [&](unsigned k, clock_time deadline) {
+        return [&, k, deadline](unsigned) { is(s.take(deadline, priorities[k]) && taken++ == turns[k]); };
     };
     auto ends = [&](unsigned k) {
         auto deadline = in_ms(static_cast<int>(50 * k));
-        is(!s.take(deadline) && std::chrono::steady_clock::now() < deadline + std::chrono::seconds(30));
+        is(!s.take(deadline, 5));
+        is(std::chrono::steady_clock::now() >= deadline);
+        is(std::chrono::steady_clock::now() < deadline + std::chrono::seconds(30));
     };
-    threads all(1, takes(parts::limit_clock::never, 3));
+    threads all(1, takes(0, parts::limit_clock::never));
     s.await(1);
-    all.add(1, takes(in_ms(2 * hour), 1));
+    all.add(1, takes(1, in_ms(hour)));
     s.await(2);
-    all.add(1, takes(in_ms(hour), 0));
+    all.add(1, takes(2, in_ms(2 * hour)));
     s.await(3);
     {
         threads due(4, ends);
         sleep_for(20);
-        all.add(1, takes(in_ms(3 * hour), 2));
+        all.add(1, takes(3, in_ms(3 * hour)));
     }
     s.await(4);
     for (unsigned k = 0; k < 4; k++) s.give(), await(taken, k + 1);
+}
+// The wait of a place is ended, of three that wait with and without a limit; the others keep their order.
+static void limits_cancelled() {
+    parts::limit_clock clock;
+    limited s(clock);
+    std::atomic<unsigned> taken{0};
+    unsigned gone = 64;
+    threads all(1, [&](unsigned) { s.take_at_last(), is(taken++ == 0); });
+    s.await(1);
+    {
+        threads cancelled(1, [&](unsigned) { is(!s.take(parts::limit_clock::never, 0, &gone)); });
+        s.await(2);
+        all.add(1, [&](unsigned) { is(s.take(in_ms(hour)) && taken++ == 1); });
+        s.await(3);
+        is(gone < 64 && s.cancel(gone));
+    }
+    s.await(2);
+    is(!s.cancel(gone) && !s.cancel(63) && !s.cancel(64));
+    for (unsigned k = 0; k < 2; k++) s.give(), await(taken, k + 1);
 }
 // Two stores with one clock: each item is taken once, and waits end all the time.
 static void limits() {
@@ -338,6 +368,8 @@ int main(int argc, char **argv) {
     barriers(1, 10), barriers(5, 200), barriers(64, 5);
     is_refused(ZAULINTE_BAD_PLACES, [] { parts::barrier none(65); });
     locks(), turns();
-    limits_in_order();
+    limits_in_order({7, 7, 7, 7}, {0, 1, 2, 3});
+    limits_in_order({5, 3, 9, 0}, {2, 1, 3, 0});
+    limits_cancelled();
     limits();
 }

@@ -95,7 +95,8 @@ static bool store_await(uint32_t place, list *l, uint64_t milliseconds) {
         if (!store.waiting[c].on) w = &store.waiting[c];
     if (!w) return false;
     w->on = l, l->waiting = w;
-    limit_wait(&w->limit, place, limit_deadline(milliseconds));
+    uint64_t deadline = limit_deadline(milliseconds);
+    limit_wait(&w->limit, place, deadline, deadline);
     bool others_wait;
     ZAULINTE_CHECK(zaulinte_queue(&store.m, place, w->limit.condition, &others_wait));
     if (!others_wait) w->on = NULL, l->waiting = NULL;

@@ -4,18 +4,25 @@
  *     static limit_clock timer; static limit on_item;         // all zero
  *     limit_clock_add(&timer, &on_item, &m, ITEM, CLOCK);     // place CLOCK of m is for the clock thread alone
  *     if (limit_clock_start(&timer)) abort();
- *     if (!items && !limit_wait(&on_item, k, limit_deadline(20))) .. // by place k, inside: 20 ms are over
+ *     if (!items && !limit_wait(&on_item, k, 0, limit_deadline(20))) .. // by place k, inside: 20 ms are over
+ *     limit_cancel(&on_item, j, k);                           // by place j, inside: ends the wait of place k
  *     limit_clock_stop(&timer);                               // after the threads that wait are joined
  *
- * The deadline is the priority of the wait. So a signal resumes the waiter that is due first; with equal deadlines the
- * one that came first; and waiters without a limit (UINT64_MAX) last. Threads signal as ever: the clock thread resumes
- * a waiter by a signal too, and `limit_wait` returns which of the two it was. So no item is lost or taken twice.
+ * A limit changes no order. A waiter has the priority that its thread passes, and a signal resumes the waiter of least
+ * priority, of equal ones the longest waiting, whichever is due first. Threads signal as ever. The limit keeps the
+ * deadline of each place; the clock thread resumes each waiter that is due by `zaulinte_signal_to`, whichever waits
+ * before it, and the others keep their order. `limit_cancel` does the same for one place before its deadline: a client
+ * is gone, for example. `limit_wait` returns false if its wait ended so, and true if another thread signalled. The
+ * waiter is inside as soon as it is resumed, and no other signal goes to it: so no item is lost or taken twice.
  *
- * The user owes: the condition is one of Hoare's, and all waits on it are by `limit_wait`; and, if they are tested,
- * `inv` holds when the clock thread signals, and `ready` of the condition holds if `by_clock` of the limit is true.
+ * The user owes: the condition is one of Hoare's, and a wait on it that shall have a limit, or that `limit_cancel` may
+ * end, is by `limit_wait`. Other threads may wait there by `zaulinte_wait`: the clock thread never resumes these. If
+ * they are tested, `inv` holds when the clock thread signals, and `ready` of the condition holds if `by_clock` of the
+ * limit is true.
  *
  * Limits: all limits are added before the clock starts. Each time that one is due, the clock thread enters all of the
- * monitors: so a thread that stays inside one of them delays the limits of all.
+ * monitors, and looks at 64 deadlines in each: so a thread that stays inside one of them delays the limits of all. Of
+ * waiters that are due at one visit the clock thread resumes that of the lowest place first.
  *
  * Needs POSIX: compile with -std=gnu11, or define _GNU_SOURCE before the first #include. On Linux the clock thread
  * sleeps by a timerfd; elsewhere, and if LIMIT_CLOCK_CONDVAR is defined, by a condition variable. If that can't take
@@ -46,7 +53,8 @@
 typedef struct limit {
     zaulinte_monitor *m;
     uint32_t condition, place;
-    bool by_clock; /* the clock thread signals, and `limit_wait` hasn't returned yet */
+    bool by_clock;         /* the clock thread or a cancel ended a wait, and its `limit_wait` hasn't returned yet */
+    uint64_t deadline[64]; /* of each place. UINT64_MAX: none. 0: the place isn't in `limit_wait` */
     struct limit_clock *clock;
     struct limit *next; /* of the same clock */
 } limit;
@@ -134,19 +142,24 @@ static inline bool limit_lower(limit_clock *c, uint64_t deadline) {
     while (deadline < due && !atomic_compare_exchange_weak(&c->due, &due, deadline)) {}
     return deadline < due;
 }
+/* Ends the wait of the place `waiter` on the condition of the limit, by `place`, which is inside: its `limit_wait`
+ * returns false. Returns false, and does nothing, if `waiter` isn't in `limit_wait`, or is no place. */
+static inline bool limit_cancel(limit *l, uint32_t place, uint32_t waiter) {
+    if (waiter >= 64 || !l->deadline[waiter]) return false;
+    l->by_clock = true;
+    ZAULINTE_CHECK(zaulinte_signal_to(l->m, place, l->condition, waiter, NULL));
+    return true;
+}
 /* Resumes all waiters of a limit that are due. Returns the first deadline that is left. */
 static inline uint64_t limit_visit(limit *l) {
-    bool waits = true;
-    uint64_t now = limit_now(), first = 0;
+    uint64_t now = limit_now(), first = UINT64_MAX;
     ZAULINTE_CHECK(zaulinte_enter(l->m, l->place));
-    for (;;) {
-        ZAULINTE_CHECK(zaulinte_first(l->m, l->place, l->condition, &waits, &first));
-        if (!waits || first > now) break;
-        l->by_clock = true;
-        ZAULINTE_CHECK(zaulinte_signal(l->m, l->place, l->condition, NULL));
+    for (uint32_t k = 0; k < 64; k++) {
+        if (l->deadline[k] <= now) limit_cancel(l, l->place, k);
+        else if (l->deadline[k] < first) first = l->deadline[k];
     }
     ZAULINTE_CHECK(zaulinte_leave(l->m, l->place));
-    return waits ? first : UINT64_MAX;
+    return first;
 }
 static inline uint64_t limit_visit_all(limit_clock *c) {
     uint64_t first = UINT64_MAX;
@@ -201,13 +214,14 @@ static inline uint64_t limit_deadline(uint64_t milliseconds) {
     uint64_t now = limit_now();
     return milliseconds < (UINT64_MAX - now) / 1000000 ? now + 1000000 * milliseconds : UINT64_MAX;
 }
-/* Waits on the condition of the limit, by a place that is inside, until another thread signals it: returns true. If the
- * deadline comes first, returns false. UINT64_MAX is no limit. */
-static inline bool limit_wait(limit *l, uint32_t place, uint64_t deadline) {
+/* Waits on the condition of the limit with a priority, by a place that is inside, until another thread signals it:
+ * returns true. If the deadline comes first, or a `limit_cancel`, returns false. UINT64_MAX is no limit. */
+static inline bool limit_wait(limit *l, uint32_t place, uint64_t priority, uint64_t deadline) {
+    if (place < 64) l->deadline[place] = deadline ? deadline : 1; /* else the wait is refused */
     if (limit_lower(l->clock, deadline)) limit_arm(l->clock);
-    ZAULINTE_CHECK(zaulinte_wait(l->m, place, l->condition, deadline));
+    ZAULINTE_CHECK(zaulinte_wait(l->m, place, l->condition, priority));
     bool is_over = l->by_clock;
-    l->by_clock = false; /* now: the thread may signal others, or leave */
+    l->by_clock = false, l->deadline[place] = 0; /* now: the thread may signal others, or leave */
     return !is_over;
 }
 #endif

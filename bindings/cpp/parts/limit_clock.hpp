@@ -7,24 +7,28 @@
 //     parts::limit taking{timer, m, may::take, 7, &store::is_over};        // place 7 is the clock's
 // and in a function:
 //     auto in = m.enter(k);
-//     if (in->items == 0 && !taking.wait(in, deadline)) return false;      // the time is over
+//     if (in->items == 0 && !taking.wait(in, deadline)) return false;      // the time is over, or:
+//     taking.cancel(in, waiter);            // by another guard: ends the wait of the place `waiter`
 //
 // The clock has a thread, which sleeps until the first deadline of all. Then it enters the monitor by its place, and
-// signals each waiter that is due, after it has set `is_over` in the data.
+// signals to each waiter that is due, whichever waits before it, after it has set `is_over` in the data. `cancel` does
+// the same for one place before its deadline: a client is gone, for example.
 //
-// The priority of a wait is its deadline. So a signal resumes the waiter that is due first, and of equal deadlines the
-// longest waiting; waiters without a limit (`limit_clock::never`) have UINT64_MAX, and come last. A condition with
-// limits can't order its waiters by anything else. Each wait on it is by its `limit`, or has a priority of UINT64_MAX.
+// A limit changes no order. A waiter has the priority that its thread passes, and a signal resumes the waiter of least
+// priority, of equal ones the longest waiting, whichever is due first. A thread may also wait on the condition by
+// `in.wait`: the clock never resumes it.
 //
-// A waiter resumes as soon as it is signalled. So no item is lost: a wait that returns true finds what its signaller
-// made true, and one that returns false was signalled by the clock. In `ready`, expect what the waiter waits for, or
-// `is_over`; in `rest`, that `is_over` is false.
+// A waiter is inside as soon as it is resumed, and no other signal goes to it. So no item is lost: a wait that returns
+// true finds what its signaller made true, and one that returns false was ended by the clock, or by a cancel. In
+// `ready`, expect what the waiter waits for, or `is_over`; in `rest`, that `is_over` is false.
 #pragma once
 #include "zaulinte.hpp"
 #include <algorithm>
+#include <array>
 #include <chrono>
 #include <condition_variable>
 #include <mutex>
+#include <optional>
 #include <thread>
 #include <vector>
 
@@ -113,19 +117,16 @@ template <class M> class limit : limit_clock::client {
     typename M::condition_type condition;
     unsigned place;
     bool M::data_type::*is_over;
+    std::array<std::optional<time>, 64> deadlines; // of the places that are in `wait`; only a place inside uses them
 
-    static std::uint64_t priority(time t) {
-        auto ticks = t.time_since_epoch().count();
-        return t == limit_clock::never ? UINT64_MAX : static_cast<std::uint64_t>(ticks > 0 ? ticks : 0);
-    }
     void resume_due(time now) override {
         auto in = of.enter(place);
-        auto first = in.first(condition);
-        for (; first && *first <= priority(now); first = in.first(condition)) {
-            (*in).*is_over = true;
-            in.signal(condition);
+        time first = limit_clock::never;
+        for (unsigned k = 0; k < deadlines.size(); k++) {
+            if (deadlines[k] <= now) cancel(in, k); // nothing happens if it isn't in `wait`
+            else first = std::min(first, *deadlines[k]);
         }
-        if (first && *first != UINT64_MAX) clock.arm(*this, time(time::duration(*first)));
+        if (first != limit_clock::never) clock.arm(*this, first);
     }
 
   public:
@@ -138,12 +139,24 @@ template <class M> class limit : limit_clock::client {
     limit(const limit &) = delete;
     limit &operator=(const limit &) = delete;
     ~limit() { clock.remove(*this); }
-    // Waits on the condition, by a guard of the monitor. Returns true if a signal of another thread than the clock's
-    // resumed it, and false if the clock did, at the deadline or later.
-    bool wait(typename M::inside &in, time deadline, zaulinte::from where = zaulinte::from::here()) {
+    // Waits on the condition with a priority, by a guard of the monitor. Returns true if a signal of another thread
+    // resumed it, and false if the clock did, at the deadline or later, or a `cancel`.
+    bool wait(typename M::inside &in, time deadline, std::uint64_t priority = 0,
+              zaulinte::from where = zaulinte::from::here()) {
+        in.queue(condition, where); // what would be refused is refused before the deadline is kept
+        auto &mine = deadlines[in.place_number(where)];
+        mine = deadline;
         if (deadline != limit_clock::never) clock.arm(*this, deadline);
-        in.wait(condition, priority(deadline), where);
+        in.wait(condition, priority, where);
+        mine.reset();
         return !std::exchange((*in).*is_over, false);
+    }
+    // Ends the wait of the place with the number `waiter`, by another guard of the monitor. Returns true if that place
+    // was in `wait`; else nothing happens, also if there is no such place.
+    bool cancel(typename M::inside &in, unsigned waiter, zaulinte::from where = zaulinte::from::here()) {
+        if (waiter >= deadlines.size() || !deadlines[waiter]) return false;
+        (*in).*is_over = true;
+        return in.signal_to(condition, waiter, where);
     }
 };
 } // namespace parts

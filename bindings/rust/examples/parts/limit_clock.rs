@@ -1,28 +1,51 @@
 //! A wait with a time limit. One thread keeps the time for any number of monitors: it sleeps until the first deadline
 //! of all that wait with one, and then resumes each waiter that is due.
 //!
-//! A waiter waits with its deadline as the priority. So the limits order the waiters of that condition: a signal
-//! resumes the waiter that is due first, and waiters without a limit last; of equal limits, the longest waiting. Their
-//! priorities can't order them by anything else.
+//! A limit changes no order: a waiter has the priority that its thread passes, and a signal resumes the waiter of least
+//! priority, of equal ones the longest waiting, whichever is due first. The clock thread signals to each waiter that is
+//! due, whichever waits before it, and the others keep their order. `Limit::cancel` does the same for one waiter before
+//! its deadline: a client is gone, for example. A thread may also wait on the condition by `Inside::wait`: the clock
+//! thread never resumes it.
 //!
 //! The clock thread enters a monitor by a place of its own, which never waits. Before it resumes a waiter it tells it,
 //! in the data, that its time is over. It hands the monitor off, so nothing happens in between: a waiter that another
 //! thread resumed finds what it waited for, even if its time is over too. A limit isn't kept to the moment: the clock
 //! thread waits until the monitor is free, and visits one monitor after the other.
+use std::array::from_fn;
 use std::mem::take;
+use std::sync::atomic::{AtomicU64, Ordering::Relaxed};
 use std::sync::{Arc, Condvar, Mutex, MutexGuard, PoisonError};
 use std::thread::{spawn, JoinHandle};
 use std::time::{Duration, Instant};
 use zaulinte::{Condition, Inside, LockResult, Place};
 
-/// The priority of a waiter without a limit.
+/// The deadline of a waiter without a limit.
 const NEVER: u64 = u64::MAX;
 
 /// Data of a monitor whose threads wait with a limit.
 pub trait Limited {
-    /// Returns a flag that only the clock and the waiter write: the clock sets it before it resumes a waiter whose time
-    /// is over, and the waiter clears it. At a leave and at a wait it is false.
+    /// Returns a flag that only the clock, a cancel and the waiter write: the first two set it before they resume a
+    /// waiter whose time is over, and the waiter clears it. At a leave and at a wait it is false.
     fn is_over(&mut self) -> &mut bool;
+}
+
+/// The deadlines of the places that wait with a limit on one condition, by the places' numbers. 0: the place doesn't
+/// wait so. Only a place inside uses them, so the monitor orders these accesses.
+type Kept = Arc<[AtomicU64; 64]>;
+
+/// Ends the wait of a place. Returns true if that place waited with a limit on the condition, in an error if a thread
+/// panicked inside; else nothing happens.
+fn end<T, C, M>(inside: &mut Inside<'_, T, C, M>, condition: C, kept: &Kept, waiter: usize) -> LockResult<bool>
+where
+    T: Limited + Send,
+    C: Condition,
+    M: Condition,
+{
+    if kept.get(waiter).is_none_or(|deadline| deadline.load(Relaxed) == 0) {
+        return Ok(false);
+    }
+    *inside.is_over() = true;
+    inside.signal_to(condition, waiter)
 }
 
 /// Resumes the waiters of one condition that are due at a time. Returns the first deadline of those that still wait.
@@ -53,9 +76,9 @@ impl Shared {
         self.began.elapsed().as_nanos() as u64
     }
 
-    fn priority_of(&self, deadline: Option<Instant>) -> u64 {
+    fn nanos_of(&self, deadline: Option<Instant>) -> u64 {
         let nanos = |at: Instant| at.saturating_duration_since(self.began).as_nanos();
-        deadline.map_or(NEVER, |at| nanos(at).min(u128::from(NEVER - 1)) as u64)
+        deadline.map_or(NEVER, |at| nanos(at).clamp(1, u128::from(NEVER - 1)) as u64)
     }
 
     /// Lets the thread get up at this time, or before.
@@ -100,6 +123,7 @@ pub struct Limit<C> {
     shared: Arc<Shared>,
     watch: usize,
     condition: C,
+    kept: Kept,
 }
 
 impl LimitClock {
@@ -125,18 +149,25 @@ impl LimitClock {
         C: Condition + Send + 'static,
         M: Condition + 'static,
     {
+        let kept: Kept = Arc::new(from_fn(|_| AtomicU64::new(0)));
+        let of_thread = kept.clone();
         let watch = move |now| {
             let mut inside = place.enter().unwrap_or_else(PoisonError::into_inner);
-            while inside.first(condition).is_some_and(|deadline| deadline <= now) {
-                *inside.is_over() = true;
-                _ = inside.signal(condition); // if a thread panicked inside, its waiters hear of that
+            let mut first = NEVER;
+            for (waiter, deadline) in of_thread.iter().enumerate() {
+                let deadline = deadline.load(Relaxed);
+                if deadline <= now {
+                    _ = end(&mut inside, condition, &of_thread, waiter); // the waiter hears of a panic inside
+                } else {
+                    first = deadline.min(first);
+                }
             }
-            inside.first(condition).unwrap_or(NEVER)
+            first
         };
         let mut deadlines = self.shared.locked();
         deadlines.new.push(Box::new(watch));
         deadlines.first.push(NEVER);
-        Limit { shared: self.shared.clone(), watch: deadlines.first.len() - 1, condition }
+        Limit { shared: self.shared.clone(), watch: deadlines.first.len() - 1, condition, kept }
     }
 }
 
@@ -149,18 +180,36 @@ impl Drop for LimitClock {
 }
 
 impl<C: Condition> Limit<C> {
-    /// Waits on the condition, until a signal or until the deadline. Returns true if a thread signalled, and false if
-    /// the time is over, in an error if a thread panicked inside. If both come at once, either is returned; a signal is
-    /// never lost by that, since it resumes another waiter then.
-    pub fn wait<T, M>(&self, inside: &mut Inside<'_, T, C, M>, deadline: Option<Instant>) -> LockResult<bool>
+    /// Waits on the condition with a priority, until a signal or until the deadline. Returns true if a thread
+    /// signalled, and false if the time is over or a cancel ended the wait, in an error if a thread panicked inside. If
+    /// a signal and the deadline come at once, either is returned; a signal is never lost by that, since it resumes
+    /// another waiter then.
+    pub fn wait<T, M>(
+        &self,
+        inside: &mut Inside<'_, T, C, M>,
+        priority: u64,
+        deadline: Option<Instant>,
+    ) -> LockResult<bool>
     where
         T: Limited + Send,
         M: Condition,
     {
-        let priority = self.shared.priority_of(deadline);
-        self.shared.announce(self.watch, priority);
+        let (mine, deadline) = (&self.kept[inside.place_number()], self.shared.nanos_of(deadline));
+        mine.store(deadline, Relaxed);
+        self.shared.announce(self.watch, deadline);
         let waited = inside.wait(self.condition, priority);
+        mine.store(0, Relaxed);
         let is_over = take(inside.is_over());
         waited.map(|()| !is_over).map_err(|_| PoisonError::new(!is_over))
+    }
+
+    /// Ends the wait of the place with the number `waiter`, by another place that is inside. Returns true if that place
+    /// was in `wait`, in an error if a thread panicked inside; else nothing happens, also if there is no such place.
+    pub fn cancel<T, M>(&self, inside: &mut Inside<'_, T, C, M>, waiter: usize) -> LockResult<bool>
+    where
+        T: Limited + Send,
+        M: Condition,
+    {
+        end(inside, self.condition, &self.kept, waiter)
     }
 }

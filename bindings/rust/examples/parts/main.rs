@@ -130,6 +130,10 @@ conditions! { enum When { NotEmpty } }
 struct Items {
     items: u32,
     is_over: bool,
+    /// The names of the takers, or `-` if no item came.
+    order: String,
+    /// The place that began to wait last.
+    last: usize,
 }
 
 impl Limited for Items {
@@ -150,7 +154,7 @@ impl Store {
         let checks = Checks {
             inv: |store: &Items| !store.is_over || store.items == 0,
             rest: |store, waiting| !store.is_over && (waiting.count(When::NotEmpty) == 0 || store.items == 0),
-            ready: |_, _, store, _| store.is_over || store.items > 0,
+            ready: |_, _, store, _| store.is_over != (store.items > 0),
         };
         let (_, mut places) = Monitor::checked(Items::default(), 64, checks).unwrap();
         let limit = clock.watch(places.pop().unwrap(), When::NotEmpty);
@@ -167,12 +171,87 @@ impl Store {
 
     /// Returns false if there is no item until the deadline.
     fn take(&self, deadline: Option<Instant>) -> bool {
+        self.take_by('t', 0, deadline)
+    }
+
+    fn take_by(&self, name: char, priority: u64, deadline: Option<Instant>) -> bool {
         let mut place = self.takers.borrow();
         let mut store = place.enter().unwrap();
-        let is_there = store.items > 0 || self.limit.wait(&mut store, deadline).unwrap();
+        store.last = store.place_number();
+        let is_there = store.items > 0 || self.limit.wait(&mut store, priority, deadline).unwrap();
         store.items -= u32::from(is_there);
+        store.order.push(if is_there { name } else { '-' });
         is_there
     }
+
+    /// Takes an item by a wait that has no limit, and that no cancel ends.
+    fn take_at_last(&self, name: char) {
+        let mut place = self.takers.borrow();
+        let mut store = place.enter().unwrap();
+        store.last = store.place_number();
+        store.wait(When::NotEmpty, 0).unwrap();
+        store.items -= 1;
+        store.order.push(name);
+    }
+
+    fn cancel(&self, waiter: usize) -> bool {
+        let mut place = self.givers.borrow();
+        let mut store = place.enter().unwrap();
+        self.limit.cancel(&mut store, waiter).unwrap()
+    }
+
+    fn last(&self) -> usize {
+        self.givers.borrow().enter().unwrap().last
+    }
+
+    /// Returns once so many takers wait.
+    fn until_wait(&self, many: usize) {
+        while self.givers.borrow().enter().unwrap().count(When::NotEmpty) != many {
+            thread::yield_now();
+        }
+    }
+}
+
+/// Three takers wait, in the order of their priorities or of their arrival, whichever is due first. Then each item goes
+/// to the next. If the deadline of `b` is 0, a cancel ends its wait.
+fn limits_keep_order(priorities: [u64; 3], minutes: [Option<u64>; 3], order: &str) {
+    let clock = LimitClock::new();
+    let store = &Store::new(&clock);
+    let mut places = [0; 3];
+    thread::scope(|s| {
+        for k in 0..3 {
+            let deadline = minutes[k].map(|minutes| Instant::now() + Duration::from_secs(60 * minutes.max(1)));
+            s.spawn(move || store.take_by(['a', 'b', 'c'][k], priorities[k], deadline));
+            store.until_wait(k + 1);
+            places[k] = store.last();
+        }
+        if minutes[1] == Some(0) {
+            assert!(store.cancel(places[1]));
+            assert!(!(0..=64).any(|k| k != places[0] && k != places[2] && store.cancel(k)));
+        }
+        (0..order.matches(char::is_alphabetic).count()).for_each(|_| store.give());
+    });
+    assert_eq!(store.givers.borrow().enter().unwrap().order, order);
+}
+
+/// A limit ends between two waiters; the first of them waits without the clock, and no cancel ends its wait.
+fn limits_end_between_others() {
+    let clock = LimitClock::new();
+    let store = &Store::new(&clock);
+    thread::scope(|s| {
+        s.spawn(|| store.take_at_last('a'));
+        store.until_wait(1);
+        let first = store.last();
+        let second = s.spawn(|| store.take(Some(Instant::now() + Duration::from_millis(30))));
+        while store.last() == first {
+            thread::yield_now();
+        }
+        s.spawn(|| store.take_by('c', 0, None));
+        assert!(!second.join().unwrap() && !store.cancel(first));
+        store.until_wait(2);
+        (0..2).for_each(|_| store.give());
+    });
+    assert_eq!(store.givers.borrow().enter().unwrap().order, "-ac");
 }
 
 /// Waits on two monitors for items that don't come, beside a wait with a limit that is far. Returns how late the last
@@ -224,6 +303,11 @@ fn main() {
     latch_opens_to_all();
     barrier_keeps_rounds_apart();
     nobody_reads_while_another_writes();
+    limits_keep_order([7, 7, 7], [Some(2), Some(1), None], "abc");
+    limits_keep_order([5, 1, 3], [Some(1), None, Some(2)], "bca");
+    limits_keep_order([7, 7, 7], [Some(2), Some(0), None], "-ac");
+    limits_keep_order([5, 9, 3], [None, Some(0), Some(2)], "-ca");
+    limits_end_between_others();
     let late = waits_end_at_their_limit();
     assert!(late < Duration::from_secs(10), "a wait ended {late:?} after its limit");
     let over = limits_lose_no_item();

@@ -358,13 +358,13 @@ enum { FIRST, SECOND, THIRD, CHOOSER, CHOICES, ITEM = 0, ROOM };
 enum { LIMITED = 5, CLOCK = LIMITED, SERVER, LIMITS };
 enum outcome { WAITING, SERVED, EXPIRED };
 static enum outcome outcome[LIMITED];
-static uint64_t priorities[LIMITED];
 static uint32_t came[LIMITED], many;
+static bool last_is_first; /* by its priority */
 static void *is_chosen(void *place) {
     uint32_t me = (uint32_t)(uintptr_t)place;
     ZAULINTE_CHECK(zaulinte_enter(&m, me));
     outcome[me] = WAITING;
-    ZAULINTE_CHECK(zaulinte_wait(&m, me, ITEM, priorities[me]));
+    ZAULINTE_CHECK(zaulinte_wait(&m, me, ITEM, last_is_first ? CHOOSER - me : 5));
     IS(outcome[me] != WAITING, true);
     came[many++] = me;
     ZAULINTE_CHECK(zaulinte_leave(&m, me));
@@ -380,6 +380,9 @@ static void wait_in_turn(pthread_t *ids, uint32_t waiters, void *(*does)(void *)
         IS(zaulinte_count(&m, counter, ITEM, &waiting), 0);
         IS(zaulinte_leave(&m, counter), 0);
     }
+}
+static void join(const pthread_t *ids, uint32_t threads) {
+    for (uint32_t k = 0; k < threads; k++) pthread_join(ids[k], NULL);
 }
 static bool signal_to(uint32_t condition, uint32_t place) {
     bool resumed;
@@ -405,15 +408,15 @@ static void chooses(uint32_t chosen, uint32_t then, uint32_t last) {
 }
 static void resumes_the_chosen(bool by_priority) {
     pthread_t ids[CHOOSER];
+    last_is_first = by_priority;
     IS(zaulinte_make(&m, CHOICES, 2, 0), 0);
-    for (uint32_t k = 0; k < CHOOSER; k++) priorities[k] = by_priority ? CHOOSER - k : 5;
     for (uint32_t chosen = FIRST; chosen <= THIRD; chosen++) {
         uint32_t sooner = chosen == FIRST ? SECOND : FIRST, later = chosen == THIRD ? SECOND : THIRD;
         wait_in_turn(ids, CHOOSER, is_chosen, CHOOSER);
         IS(zaulinte_enter(&m, CHOOSER), 0);
         chooses(chosen, by_priority ? later : sooner, by_priority ? sooner : later);
         IS(zaulinte_leave(&m, CHOOSER), 0);
-        for (uint32_t k = 0; k < CHOOSER; k++) pthread_join(ids[k], NULL);
+        join(ids, CHOOSER);
     }
     IS(zaulinte_free(&m), 0);
 }
@@ -467,7 +470,7 @@ static void limits(void) {
         IS(came[2 + k / 2], k);
     }
     IS(zaulinte_leave(&m, SERVER), 0);
-    for (uint32_t k = 0; k < LIMITED; k++) pthread_join(ids[k], NULL);
+    join(ids, LIMITED);
     IS(zaulinte_free(&m), 0);
 }
 /* What is recorded if the chosen place isn't the first waiter (the recording begins anew), if it is, and if it doesn't
@@ -512,7 +515,7 @@ static void records_choices(size_t acts) {
     IS(signal_to(ITEM, FIRST), true);
     if (acts > 3) is_saved(TWICE "leave 2\nsignal 3 0\nleave 0\nleave 1\n");
     IS(zaulinte_leave(&m, CHOOSER), 0);
-    for (uint32_t k = 0; k < CHOOSER; k++) pthread_join(ids[k], NULL);
+    join(ids, CHOOSER);
     IS(zaulinte_free(&m), 0);
     free(memory);
 }

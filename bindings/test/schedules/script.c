@@ -25,27 +25,31 @@ void begin_script(void) {
     memset(&shown, 0, sizeof shown);
     acts = &shown;
 }
-/* Returns how many waiters on the condition resume before this place, or X_NOBODY if it doesn't wait there. All wait
- * with one priority. */
-static uint32_t waits_after(uint32_t place, uint64_t condition) {
-    uint8_t waiting[ACTS];
-    uint32_t many = 0, n = 0;
+/* Writes the waiters on the condition to `to`, the first to resume first, and returns their number. All wait with one
+ * priority. */
+static size_t waiters(uint64_t condition, uint8_t *to) {
+    size_t many = 0;
     for (uint32_t i = 0; i < acts->many; i++) {
         if (acts->act[i].condition != condition) continue;
-        if (acts->act[i].step == WAIT) waiting[many++] = acts->act[i].place;
+        if (acts->act[i].step == WAIT) to[many++] = acts->act[i].place;
         else if (acts->act[i].step == BROADCAST) many = 0;
-        else if (acts->act[i].step >= SIGNAL && many) memmove(waiting, waiting + 1, --many);
+        else if (acts->act[i].step >= SIGNAL && many) memmove(to, to + 1, --many);
     }
-    while (n < many && waiting[n] != place) n++;
-    return n < many ? n : X_NOBODY;
+    return many;
+}
+/* Returns true if a signal resumes this place. If it waits there after others, there is no script. */
+static bool is_first(uint32_t place, uint64_t condition) {
+    uint8_t waiting[ACTS];
+    size_t many = waiters(condition, waiting);
+    const uint8_t *found = many ? memchr(waiting, (int)place, many) : NULL;
+    acts->has_others |= found && found > waiting;
+    return found == waiting;
 }
 void note_act(const char *step, uint32_t place, uint64_t condition, uint64_t number) {
     uint8_t k = 0;
     if (!acts) return;
     if (!strcmp(step, "signal_to")) {
-        uint32_t after = waits_after((uint32_t)number, condition);
-        acts->has_others |= after > 0 && after < X_NOBODY;
-        if (after) return; /* it waits there after others, or doesn't */
+        if (!is_first((uint32_t)number, condition)) return;
         step = "signal";
     }
     while (k < STEPS && strcmp(steps[k][0], step)) k++;

@@ -56,8 +56,8 @@ pub data SignalledTo (h : History (Unit {0})) (k c w : ℕ) (new : Contents) (co
       → IsOf new (settled (after_signal_to h k c w (wait_by w c h.events)))
       → Tells (settled (after_signal_to h k c w (wait_by w c h.events))) code
       → SignalledTo h k c w new code
-  was_refused : (r : StepRefused) → act_refusal h k (kind_refusal h false c) ≡ Some r → IsOf new h → code ≡ refusal_code r
-      → SignalledTo h k c w new code
+  was_refused : (r : StepRefused) → act_refusal h k (kind_refusal h false c) ≡ Some r → IsOf new h
+      → code ≡ refusal_code r → SignalledTo h k c w new code
 
 -- such a signal that finds a book of a history leaves it there
 abbrev pub SignalsTo : ℕ → Contents → ℕ → ℕ → ℕ → ℕ → Contents → ℕ → Type 0

@@ -78,8 +78,8 @@ pub fn stepped(book: &mut Book, step: Step) -> u64
     }
 }
 
-/// Lets `place` signal to the place `waiter` on `condition`, and returns the number of the place that is inside then, below
-/// 64. Refused as `Book::try_signal_to`, with the code of the refusal; a refusal changes nothing.
+/// Lets `place` signal to the place `waiter` on `condition`, and returns the number of the place that is inside then,
+/// below 64. Refused as `Book::try_signal_to`, with the code of the refusal; a refusal changes nothing.
 pub fn signalled_to(book: &mut Book, place: u64, condition: u64, waiter: u64) -> u64
     ensures of { (h : History (Unit {0})) → IsOf book.old h → SignalledTo h place condition waiter book.new result }
     ensures refused { 64 < result → book.new ≡ book.old }

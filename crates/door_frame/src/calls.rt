@@ -188,10 +188,10 @@ pub fn begin_signal<D: MonitorData, T: RawMonitor<D>, S: Parking>(
     Ok((Away::of_parts(seat, place, sleeper), next))
 }
 
-/// Does the first half of a signal to the place `waiter`. If that place waits on `condition`, hands the monitor off to it,
-/// whoever else waits: the signalling place is then away, and returns by `try_return`; the result also shows which place
-/// resumes next. If the door doesn't wake its places, the caller wakes that place. If `waiter` doesn't wait there,
-/// returns `inside` unchanged.
+/// Does the first half of a signal to the place `waiter`. If that place waits on `condition`, hands the monitor off to
+/// it, whoever else waits: the signalling place is then away, and returns by `try_return`; the result also shows which
+/// place resumes next. If the door doesn't wake its places, the caller wakes that place. If `waiter` doesn't wait
+/// there, returns `inside` unchanged.
 #[inline]
 pub fn begin_signal_to<D: MonitorData, T: RawMonitor<D>, S: Parking>(
     door: &T,
@@ -216,8 +216,18 @@ pub fn begin_signal_to<D: MonitorData, T: RawMonitor<D>, S: Parking>(
         return Err(inside);
     }
     let (mut seat, place, sleeper, mut guarded) = inside.into_parts();
-    let next = guarded.held.contents.book.signal_to(place, condition, waiter);
-    door.release(&mut seat, guarded, place, Release::SignalTo(condition, waiter), next);
+    let next = guarded
+        .held
+        .contents
+        .book
+        .signal_to(place, condition, waiter);
+    door.release(
+        &mut seat,
+        guarded,
+        place,
+        Release::SignalTo(condition, waiter),
+        next,
+    );
     Ok((Away::of_parts(seat, place, sleeper), next))
 }
 
@@ -302,9 +312,9 @@ pub fn signal<D: MonitorData, T: Wakes<D>, R: Wait>(
     }
 }
 
-/// Signals to the place `waiter` on `condition`, at a door that wakes its places: if that place waits there, whoever else
-/// waits, it resumes, and this call returns once the monitor is given up after that. Returns true if so. If `waiter`
-/// doesn't wait there, changes nothing and returns false.
+/// Signals to the place `waiter` on `condition`, at a door that wakes its places: if that place waits there, whoever
+/// else waits, it resumes, and this call returns once the monitor is given up after that. Returns true if so. If
+/// `waiter` doesn't wait there, changes nothing and returns false.
 pub fn signal_to<D: MonitorData, T: Wakes<D>, R: Wait>(
     door: &T,
     rt: &R,

@@ -82,12 +82,12 @@ impl<T> RunningMonitor<T> {
         }
     }
 
-    /// Signals to the place with the number `waiter`, on one of Hoare's conditions. If that place waits there, it resumes
-    /// at once, whoever else waits, and the other waiters keep their order; this call returns, with true, when the
-    /// monitor is given up after that. If it doesn't wait there, changes nothing and returns false. The caller must
-    /// prove `ready` of the data, for that wait and its priority. What is resumed so finds the same `ready` as after a
-    /// signal: the data must say why it was resumed, if that matters. This call is this project's own: Hoare's signal
-    /// resumes the first waiter.
+    /// Signals to the place with the number `waiter`, on one of Hoare's conditions. If that place waits there, it
+    /// resumes at once, whoever else waits, and the other waiters keep their order; this call returns, with true, when
+    /// the monitor is given up after that. If it doesn't wait there, changes nothing and returns false. The caller
+    /// must prove `ready` of the data, for that wait and its priority. What is resumed so finds the same `ready` as
+    /// after a signal: the data must say why it was resumed, if that matters. This call is this project's own: Hoare's
+    /// signal resumes the first waiter.
     pub fn signal_to<D: MonitorData + Send, R: Wait>(
         &self,
         rt: &R,

@@ -1,7 +1,8 @@
 -- What each act makes of a place's state, at a door, with a code.
 use Rattle.std.specs.Prelude.{ℕ}
 use Rattle.baton_door.specs.StepDoors.{StepId}
-use Rattle.door_place.specs.States.{TriesToEnter, TriesToReturn, Leaves, Waits, Signals, SignalsTo, SignalLeaves, Notifies}
+use Rattle.door_place.specs.States.{TriesToEnter, TriesToReturn, Leaves, Waits, Signals, SignalsTo, SignalLeaves}
+use Rattle.door_place.specs.States.{Notifies}
 use Rattle.door_place.specs.States.{Broadcasts, Sets}
 use Rattle.door_place.specs.declared.state.State.{State}
 

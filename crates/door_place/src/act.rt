@@ -59,9 +59,9 @@ pub struct Wait(pub u64, pub u64);
 #[derive(Clone, Copy)]
 pub struct Signal(pub u64);
 
-/// A signal to the place with the number `.1`, on one of Hoare's conditions, `.0`. If that place waits there, returns its
-/// number: it has the monitor next, whoever else waits, and the signaller is away. If it doesn't wait there, returns
-/// `NOBODY`, and the signaller is still inside. Refused: `NOT_INSIDE`, `NO_CONDITION`, `WRONG_KIND`.
+/// A signal to the place with the number `.1`, on one of Hoare's conditions, `.0`. If that place waits there, returns
+/// its number: it has the monitor next, whoever else waits, and the signaller is away. If it doesn't wait there,
+/// returns `NOBODY`, and the signaller is still inside. Refused: `NOT_INSIDE`, `NO_CONDITION`, `WRONG_KIND`.
 #[derive(Clone, Copy)]
 pub struct SignalTo(pub u64, pub u64);
 

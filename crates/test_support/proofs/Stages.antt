@@ -23,7 +23,7 @@ use Rattle.hoare_law.proofs.Waiting.{waiting-push}
 use Rattle.hoare_law.proofs.Turns.{turn-push, urgent-push, outside-push}
 use Rattle.hoare_law.proofs.Legal.{Stands-push, IsLegal-none}
 use Rattle.hoare_law.proofs.Growth.{Grows-one, Grows-trans, Begins-push, Begins-trans}
-use Rattle.hoare_law.proofs.Priorities.{priorities-leave, priorities-wait, priorities-nobody}
+use Rattle.hoare_law.proofs.Priorities.{priorities-leave, priorities-wait, priorities-nobody, wait_by-chosen}
 use Rattle.hoare_law.proofs.Tests.{self_least}
 use Rattle.test_support.specs.Stage.{opened, Stage, none_wait, IsOutside, IsInside}
 
@@ -194,7 +194,7 @@ module _ {S : Type 0} {rest : Rest S} {ready : Ready S} {n m : ℕ} where
             (rw stage.sized (omega arith), (rw stage.sized (omega (arith, hoare)), rw stage.sized (omega arith)));
         fits = (stage.turn_is, rw first refl, rw stage.sized hoare);
       })
-      (rw (first, lists) is_ready) refl refl)
+      (rw (wait_by-chosen c h.events (Wait 0 c p x) first, lists) is_ready) refl refl)
 
   -- place 1 notifies the only waiter
   pub Stage-call : {c p : ℕ} {s x s1 : S} {waits : ℕ → List (Event S)} {h : History S}

@@ -17,7 +17,8 @@ use Rattle.hoare_law.specs.declared.turn.Turn.{Turn}
 use Rattle.hoare_law.specs.declared.turn.Turn.TheVariants.{Free, Held, Owed, Return}
 use Rattle.hoare_law.specs.Events.{opened, place_of, with_event}
 use Rattle.hoare_law.specs.Sizes.{IsHoare, IsMesa}
-use Rattle.hoare_law.specs.Waiting.{waiting, waits_on, takes, concerns, priority_of, chosen, Chooses, wait_by, IsWaiting}
+use Rattle.hoare_law.specs.Waiting.{waiting, waits_on, takes, concerns, priority_of, chosen, Chooses, wait_by}
+use Rattle.hoare_law.specs.Waiting.{IsWaiting}
 use Rattle.hoare_law.specs.Called.{called_by, called}
 use Rattle.hoare_law.specs.Turns.{urgent, turn, turn_by, outside, is_out, is_signal}
 use Rattle.hoare_law.specs.Priorities.{put_in, in_order, behind_first}
@@ -37,9 +38,11 @@ use Rattle.hoare_law.proofs.Chosen as law
 use Rattle.hoare_law.proofs.Sorted as sorted
 use Rattle.hoare_law.proofs.Tests.{eq_swap}
 use Rattle.wait_book.specs.declared.waiter.Waiter.{Waiter}
-use Rattle.wait_book.specs.Contents.{Contents, IsOf, hoare_of, next_of, one, times, times_in, wait_of, waiters_on, waits_of}
+use Rattle.wait_book.specs.Contents.{Contents, IsOf, hoare_of, next_of, one, times, times_in, wait_of, waiters_on}
+use Rattle.wait_book.specs.Contents.{waits_of}
 use Rattle.wait_book.specs.declared.steps.Next.TheVariants as next
-use Rattle.wait_book.specs.Stepping.{after_broadcast, after_claim, after_notify, after_signal, after_signal_to, after_pass, settled}
+use Rattle.wait_book.specs.Stepping.{after_broadcast, after_claim, after_notify, after_signal, after_signal_to}
+use Rattle.wait_book.specs.Stepping.{after_pass, settled}
 use Rattle.wait_book.specs.Insides.{IsCalledFirst, IsSound, chain_of}
 use Rattle.wait_book.specs.Queues.{PutsIn, TakesAll, Removes, IsFirst}
 use Rattle.wait_book.proofs.Times.{eq_self, one_at, one_same, one_apart, filter-apart, filter-others, list_all-apart}

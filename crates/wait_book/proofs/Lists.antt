@@ -207,9 +207,14 @@ stands_somewhere place xs None r is told = (
 stands_somewhere place xs (Some p) r is told =
     let s : Stands place None xs p.0 p.1 = stands place None xs p.0 p.1 (sym is) in
     let all : times place (places_in xs) ≡ times place (places_in (s.before ++ s.link ∷ s.after)) =
-    ap (λ ys. times place (places_in ys)) s.is in
-    (
-      (λ yes none. absurd (omega (arith, none, all, places_middle place s.before s.link s.after,
-      ap (one place) s.link_place, one_same place))),
+    ap (λ ys. times place (places_in ys)) s.is in (
+      (λ yes none. absurd (omega (
+        arith,
+        none,
+        all,
+        places_middle place s.before s.link s.after,
+        ap (one place) s.link_place,
+        one_same place,
+      ))),
       λ some. told,
     )

@@ -19,7 +19,8 @@ use Rattle.wait_book.specs.declared.chains.Link.{Link}
 use Rattle.wait_book.specs.declared.waiter.Waiter.{Waiter}
 use Rattle.wait_book.specs.Contents.{times}
 use Rattle.wait_book.specs.Insides.{called_in, waiter_of, waiter_on, waiting_below}
-use Rattle.wait_book.specs.Lists.{Lists, IsJoined, IsPut, IsTaken, IsTakenOut, all_below, first_link, higher, list_at, list_put}
+use Rattle.wait_book.specs.Lists.{Lists, IsJoined, IsPut, IsTaken, IsTakenOut, all_below, first_link, higher, list_at}
+use Rattle.wait_book.specs.Lists.{list_put}
 use Rattle.wait_book.specs.Lists.{lower, places_below, priorities, total, places_in}
 use Rattle.wait_book.specs.Queues.{PutsIn, TakesAll, Removes, IsFirst}
 use Rattle.wait_book.proofs.Times.{eq_self}
@@ -172,42 +173,46 @@ taken_below (suc n) c bs x after at l e =
     elim (cases_eq n c) [
       | inl q ↦
           let ws : List Waiter = waiting_below n at in
-          let xs : List Waiter = map (waiter_on c) bs in
-          (record {
-            before = ws ++ xs;
-            first = waiter_on c x;
-            after = map (waiter_on c) after;
-            was = ap (λ ys. ws ++ ys)
-                (subst (λ (m : ℕ). map (waiter_on m) (at m) ≡ xs ++ waiter_on c x ∷ map (waiter_on c) after) (sym q)
-                (ap (map (waiter_on c)) e ∙ map-append (waiter_on c) bs (x ∷ after)))
-                ∙ sym (append_assoc ws xs (waiter_on c x ∷ map (waiter_on c) after));
-            is =
-                ap (λ ys. ys ++ map (waiter_on n) (list_put c (bs ++ after) at n))
-                (below_past waiter_on n c (bs ++ after) at (omega arith))
-                ∙ ap (λ ys. ws ++ ys)
-                (subst (λ (m : ℕ). map (waiter_on m) (list_put c (bs ++ after) at m) ≡ xs ++ map (waiter_on c) after)
-                (sym q)
-                (ap (map (waiter_on c)) (put_same c (bs ++ after) at) ∙ map-append (waiter_on c) bs after))
-                ∙ sym (append_assoc ws xs (map (waiter_on c) after));
-            on = refl;
-            place = refl;
-          }, filter-append (on c) ws xs ∙ ap (λ ys. ys ++ filter (on c) xs) (on_before n c at (omega arith))
-              ∙ on_own c bs)
+          let xs : List Waiter = map (waiter_on c) bs in (
+            record {
+              before = ws ++ xs;
+              first = waiter_on c x;
+              after = map (waiter_on c) after;
+              was = ap (λ ys. ws ++ ys)
+                  (subst (λ (m : ℕ). map (waiter_on m) (at m) ≡ xs ++ waiter_on c x ∷ map (waiter_on c) after) (sym q)
+                  (ap (map (waiter_on c)) e ∙ map-append (waiter_on c) bs (x ∷ after)))
+                  ∙ sym (append_assoc ws xs (waiter_on c x ∷ map (waiter_on c) after));
+              is =
+                  ap (λ ys. ys ++ map (waiter_on n) (list_put c (bs ++ after) at n))
+                  (below_past waiter_on n c (bs ++ after) at (omega arith))
+                  ∙ ap (λ ys. ws ++ ys)
+                  (subst (λ (m : ℕ). map (waiter_on m) (list_put c (bs ++ after) at m) ≡ xs ++ map (waiter_on c) after)
+                  (sym q)
+                  (ap (map (waiter_on c)) (put_same c (bs ++ after) at) ∙ map-append (waiter_on c) bs after))
+                  ∙ sym (append_assoc ws xs (map (waiter_on c) after));
+              on = refl;
+              place = refl;
+            },
+            filter-append (on c) ws xs ∙ ap (λ ys. ys ++ filter (on c) xs) (on_before n c at (omega arith))
+                ∙ on_own c bs,
+          )
       | inr off ↦
           let r : TakenBelow n c bs x after at = taken_below n c bs x after at (omega arith) e in
           let t = r.0 in
-          let more : List Waiter = map (waiter_on n) (at n) in
-          (record {
-            before = t.before;
-            first = t.first;
-            after = t.after ++ more;
-            was = ap (λ ws. ws ++ more) t.was ∙ append_assoc t.before (t.first ∷ t.after) more;
-            is = ap (λ ys. waiting_below n (list_put c (bs ++ after) at) ++ map (waiter_on n) ys)
-                (put_other c n (bs ++ after) at off)
-                ∙ ap (λ ws. ws ++ more) t.is ∙ append_assoc t.before t.after more;
-            on = t.on;
-            place = t.place;
-          }, r.1)
+          let more : List Waiter = map (waiter_on n) (at n) in (
+            record {
+              before = t.before;
+              first = t.first;
+              after = t.after ++ more;
+              was = ap (λ ws. ws ++ more) t.was ∙ append_assoc t.before (t.first ∷ t.after) more;
+              is = ap (λ ys. waiting_below n (list_put c (bs ++ after) at) ++ map (waiter_on n) ys)
+                  (put_other c n (bs ++ after) at off)
+                  ∙ ap (λ ws. ws ++ more) t.is ∙ append_assoc t.before t.after more;
+              on = t.on;
+              place = t.place;
+            },
+            r.1,
+          )
     ]
 
 -- what is removed from the chain of a condition is removed from the waiters

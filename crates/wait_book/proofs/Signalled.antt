@@ -12,13 +12,15 @@ use Rattle.wait_book.specs.declared.chains.Link.{Link}
 use Rattle.wait_book.specs.declared.waiter.Waiter.{Waiter}
 use Rattle.wait_book.specs.Contents.{Contents, one, times, waiters_on, waits_of}
 use Rattle.wait_book.specs.Insides.{called_in, view_of, waiter_of, waiter_on, waiting_below}
-use Rattle.wait_book.specs.Lists.{CallsFirst, Lists, IsCalled, IsPut, IsTaken, IsTakenOut, TakesOut, list_at, list_put, places_in}
+use Rattle.wait_book.specs.Lists.{CallsFirst, Lists, IsCalled, IsPut, IsTaken, IsTakenOut, TakesOut, list_at, list_put}
+use Rattle.wait_book.specs.Lists.{places_in}
 use Rattle.wait_book.specs.Queues.{Removes, IsFirst}
 use Rattle.wait_book.proofs.Waiters.{on, places, filter-taken_on}
 use Rattle.wait_book.proofs.Times.{apart_one, one_apart}
 use Rattle.hoare_law.proofs.Tests.{eq_swap}
 use Rattle.wait_book.proofs.Lists.{below_past, put_other, put_same}
-use Rattle.wait_book.proofs.Queued.{BesideKept, Removes-first, Removes-taken, beside_kept, chain-more, chain-same, on_chain}
+use Rattle.wait_book.proofs.Queued.{BesideKept, Removes-first, Removes-taken, beside_kept, chain-more, chain-same}
+use Rattle.wait_book.proofs.Queued.{on_chain}
 use Rattle.wait_book.proofs.Queued.{taken_below, waiters-same, waits-nobody}
 
 -- no process waits on c, and the contents are as they were
@@ -133,8 +135,7 @@ waits-none w c v l =
     let chain = on_chain MOST_CONDITIONS c (list_at v) l in
     let same : times w (places (filter (on c) (waiting_below MOST_CONDITIONS (list_at v))))
     ≡ times w (places_in (list_at v c)) =
-    ap (λ ws. times w (places ws)) chain ∙ ap (times w) (places_on c (list_at v c)) in
-    (
+    ap (λ ws. times w (places ws)) chain ∙ ap (times w) (places_on c (list_at v c)) in (
       (λ none. no_waits w (filter (on c) (waiting_below MOST_CONDITIONS (list_at v))) (same ∙ none)),
       (λ none. sym same ∙ some_waits w (filter (on c) (waiting_below MOST_CONDITIONS (list_at v))) none),
     )
@@ -144,8 +145,7 @@ pub waits-listed_by : (w c : ℕ) (a : Inside) (d : Contents) (r : Bool) → c <
     → IsTrue r ↔ (times w (places_in (list_at a.chains c)) ≢ 0)
     → IsTrue r ↔ (waits_of w c d ≢ [])
 waits-listed_by w c a d r l same told =
-    let none = waits-none w c a.chains l in
-    (
+    let none = waits-none w c a.chains l in (
       (λ yes empty. told.0 yes (none.1 (ap (λ (v : Contents). waits_of w c v) same ∙ empty))),
       (λ some. told.1 (λ zero. some (sym (ap (λ (v : Contents). waits_of w c v) same) ∙ none.0 zero))),
     )
@@ -184,7 +184,8 @@ first_waiter : (c place : ℕ) (x : Link) (xs : List Link) (old : Lists) (ws : L
     → waiter_on c x ≡ t.first
 first_waiter c place x xs old ws l is t none =
     let same : waiter_on c x ∷ map (waiter_on c) xs ≡ t.first ∷ filter (on c) ws =
-    sym (on_chain MOST_CONDITIONS c (list_at old) l ∙ ap (map (waiter_on c)) is) ∙ filter-taken_on c _ ws place t none in
+    sym (on_chain MOST_CONDITIONS c (list_at old) l ∙ ap (map (waiter_on c)) is)
+    ∙ filter-taken_on c _ ws place t none in
     cc
 
 pub notified : (c : ℕ) (old new : Lists) → c < MOST_CONDITIONS → (f : IsCalled c old new)

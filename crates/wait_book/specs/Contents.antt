@@ -13,7 +13,6 @@ use Rattle.hoare_law.specs.Called.{called}
 use Rattle.hoare_law.specs.Turns.{urgent, turn, outside}
 use Rattle.hoare_law.specs.Priorities.{in_order}
 use Rattle.hoare_law.specs.Legal.{IsLegal}
-use Rattle.wait_book.specs.declared.book.TheConstants.{MOST_CONDITIONS}
 use Rattle.wait_book.specs.declared.waiter.Waiter.{Waiter}
 use Rattle.wait_book.specs.declared.steps.Next.{Next}
 use Rattle.wait_book.specs.declared.steps.Next.TheVariants as next

@@ -145,7 +145,12 @@ impl Book {
     ///
     /// Refuses with the first that applies: `NoPlace`, `NotInside`, `NoCondition`, `WrongKind`. A refusal changes
     /// nothing.
-    pub fn try_signal_to(&mut self, place: u64, condition: u64, waiter: u64) -> Result<Next, StepRefused>
+    pub fn try_signal_to(
+        &mut self,
+        place: u64,
+        condition: u64,
+        waiter: u64,
+    ) -> Result<Next, StepRefused>
         ensures of { (h : History (Unit {0})) → IsOf self.old h
             → let refusal = act_refusal h place (kind_refusal h false condition) in MatchResult result
             (λ _. (refusal ≡ None) × IsOf self.new

@@ -1,5 +1,5 @@
-use Rattle.std.proofs.Common.{◌≡◌, true, false, arith, rules, refl, ap, sym, ◌∙◌, length}
-use Rattle.wait_book.specs.Contents.{Contents, IsOf, times, waits_of}
+use Rattle.std.proofs.Common.{arith, rules, refl, ap, sym, ◌∙◌, length}
+use Rattle.wait_book.specs.Contents.{Contents, times, waits_of}
 use Rattle.wait_book.specs.Insides.{view_of}
 use Rattle.wait_book.proofs.Sound as sound
 use Rattle.wait_book.proofs.Histories as histories
@@ -41,7 +41,8 @@ pub append-requires : goal.append-requires
 append-requires c =
     let b : Contents = view_of c.self.inside in
     let below = sound.hoare_chain b _ c.args.condition c.self.view_is c.requires.hoare c.self.invariant in
-    let out = named_out c.args.condition c.args.waiter c.self.inside.chains c.take.new.self below c.if-not-take.ensures in
+    let out =
+    named_out c.args.condition c.args.waiter c.self.inside.chains c.take.new.self below c.if-not-take.ensures in
     let h = sound.holds c.self.view_is c.self.invariant c.requires.inside in
     let apart = sound.holder_apart b c.args.place h in
     record {

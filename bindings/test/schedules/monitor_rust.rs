@@ -17,6 +17,10 @@ struct Data {
     items: u32,
     /// A thread panicked inside.
     is_poisoned: bool,
+    /// The places that wait on the condition of Hoare.
+    waits: [bool; 10],
+    /// The place that a signal to it resumes next.
+    chosen: Option<usize>,
 }
 
 type Place = zaulinte::Place<Data, Hoare, Mesa, Explored>;
@@ -38,7 +42,7 @@ pub struct Program {
 pub extern "C" fn x_make(program: &Program) {
     rust_world::begin();
     let mut ports = (0..).map(Explored::of);
-    let data = Data { items: 0, is_poisoned: false };
+    let data = Data { items: 0, is_poisoned: false, waits: [false; 10], chosen: None };
     let made = Monitor::with_port(data, program.places as usize, Checks::default(), || ports.next().unwrap());
     let Ok((monitor, mut places)) = made else { panic!() };
     if cfg!(record) {
@@ -69,7 +73,9 @@ pub extern "C" fn x_finished() -> *const c_char {
 #[no_mangle]
 pub extern "C" fn x_run(_: u32, number: u32, script: *const c_char) {
     let script = unsafe { CStr::from_ptr(script) }.to_bytes();
-    let mut letters = script.iter().copied().filter(|letter| *letter != b' ' && !letter.is_ascii_digit());
+    let is_waiter = |i: usize| i > 1 && script[i - 2] == b'S'; // of SCK the letters are S and K
+    let is_letter = |&(i, letter): &(usize, u8)| letter != b' ' && (!letter.is_ascii_digit() || is_waiter(i));
+    let mut letters = script.iter().copied().enumerate().filter(is_letter).map(|(_, letter)| letter);
     let mut groups = script.windows(2).filter(|pair| b"gh".contains(&pair[0])).map(|pair| usize::from(pair[1] - b'0'));
     let mut borrowed: [Option<Borrowed>; 2] = [None, None]; // the last before the others
     while let Some(letter) = letters.next() {
@@ -120,7 +126,11 @@ fn visit(entered: LockResult<Inside<'_>>, number: u32, letters: &mut impl Iterat
     visited.as_ref().map(|inside| agrees(inside, is_err));
     while let Some(inside) = visited {
         unsafe { x_touch(number) };
-        visited = act(inside, number, letters.next());
+        let letter = letters.next();
+        visited = match letter {
+            Some(b'S') => signal_to(inside, letters.next()),
+            _ => act(inside, number, letter),
+        };
     }
 }
 
@@ -154,8 +164,14 @@ fn act<'a>(mut inside: Inside<'a>, number: u32, letter: Option<u8>) -> Option<In
 
 fn wait(inside: &mut Inside<'_>) {
     if inside.items == 0 {
+        let number = inside.place_number();
+        inside.waits[number] = true;
         let is_err = inside.wait(Hoare::Item, 0).is_err();
+        inside.waits[number] = false;
         agrees(inside, is_err);
+        if inside.chosen.take().is_some_and(|chosen| chosen != number) {
+            fail(c"another place resumes than the chosen one")
+        }
     }
     if inside.items == 0 {
         fail(c"a place resumes without an item")
@@ -177,6 +193,21 @@ fn signal(inside: &mut Inside<'_>) {
     if resumed.unwrap_or_else(|poisoned| poisoned.into_inner()) != waits {
         fail(c"signal tells the wrong number")
     }
+}
+
+fn signal_to<'a>(mut inside: Inside<'a>, letter: Option<u8>) -> Option<Inside<'a>> {
+    let waiter = usize::from(letter.unwrap_or_else(|| fail(c"no place")) - b'0');
+    let waits = inside.waits[waiter];
+    inside.chosen = waits.then_some(waiter);
+    let resumed = inside.signal_to(Hoare::Item, waiter);
+    agrees(&inside, resumed.is_err());
+    if resumed.unwrap_or_else(|poisoned| poisoned.into_inner()) != waits {
+        fail(c"signal_to tells the wrong number")
+    }
+    if inside.chosen.is_some() {
+        fail(c"the chosen place hasn't resumed")
+    }
+    Some(inside)
 }
 
 fn pass<'a>(mut inside: Inside<'a>) -> Option<Inside<'a>> {

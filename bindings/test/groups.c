@@ -135,7 +135,7 @@ static void waits(void) {
     ZAULINTE_CHECK(zaulinte_make(&store.m, 2, 1, 0));
     ZAULINTE_CHECK(zaulinte_group_make(&takers, &store.m, 0, 1));
     for (int k = 0; k < 2; k++) pthread_create(&ids[k], NULL, take, NULL);
-    while (takers.sleepers == 0 || waiters == 0) {
+    while (takers.bell.word == 0 || waiters == 0) { /* the other thread sleeps, and has printed the line */
         ZAULINTE_CHECK(zaulinte_enter(&store.m, 1));
         ZAULINTE_CHECK(zaulinte_count(&store.m, 1, ITEM, &waiters));
         ZAULINTE_CHECK(zaulinte_leave(&store.m, 1));

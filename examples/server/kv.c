@@ -9,10 +9,11 @@
  * on mutexes and condition variables is in sync_pthread.h: add -DSYNC='"sync_pthread.h"'.
  *
  * A string is a list of one item, so no value has a wrong type. BLPOP blocks a worker, so fewer clients wait than there
- * are workers: at most 31, by Zaulinte for 8 lists. Others are refused. No call ends the wait of a given place. So if a
- * client is killed while it waits, its worker stays blocked, until the limit of that BLPOP or an item. Then it finds
- * that the client is gone, and pushes the item back. As with Redis, an item is lost if it was sent before that. SIGTERM
- * and SIGINT end all waits; then the server joins its threads, and frees everything. */
+ * are workers, and at most 31; others are refused. They may wait for any lists. By Zaulinte an item goes to the client
+ * that waits longest for its list, as with Redis. If a client is killed while it waits, the main thread ends its wait:
+ * that frees the worker. If an item came before that, the worker finds that the client is gone, and pushes the item
+ * back. As with Redis, an item is lost if it was sent before that. SIGTERM and SIGINT end all waits; then the server
+ * joins its threads, and frees everything. */
 #define _GNU_SOURCE
 #include "table.h"
 #include <errno.h>
@@ -33,7 +34,6 @@
 #ifndef APPEND
 #define APPEND BATCH /* the most connections that a visit appends */
 #endif
-#define TOO_MANY_WAIT "-ERR too many clients wait\r\n"
 enum { ROOM = 256, BATCH = 64, MOST_WAITS = 31, MOST_WORKERS = 256, MOST_FILES = 1 << 16, WORDS = 64, IN = 1 << 14 };
 typedef struct connection {
     int fd, words;
@@ -45,11 +45,13 @@ typedef struct connection {
 } connection;
 
 /* The calls of sync_zaulinte.h and sync_pthread.h:
- * - queue_append, queue_close: by the main thread. queue_take returns NULL when the queue is closed and empty.
+ * - queue_append, queue_close, store_cancel, store_close: by the main thread.
+ * - queue_take returns NULL when the queue is closed and empty.
  * - store_enter .. store_leave: the table is the caller's. store_leave takes the list that was used. If it has an item
  *   and a client waits for one, that client continues; if it isn't needed, it is freed.
  * - store_enter_to_wait: the same, for a call that may wait. False: as many as may wait are there.
- * - store_await: waits until the list has an item, the time is over, or the store closes. False: it can't wait.
+ * - store_await: waits until the list has an item, the time is over, the store closes, or store_cancel ends the wait of
+ *   the connection with this descriptor.
  * - store_close ends all waits. sync_make takes how many may wait. sync_free: after the workers are joined. */
 #include SYNC
 
@@ -61,6 +63,13 @@ static struct {
     _Atomic(connection *) open[MOST_FILES]; /* by their descriptors */
     _Atomic unsigned waiting;               /* clients */
 } server;
+static void must(bool is_well, const char *what) {
+    if (!is_well) perror(what), exit(1);
+}
+static void poll_for(int fd, int how, uint32_t events) { /* if it isn't for input, the event has ~fd */
+    struct epoll_event event = {events, {.fd = events & EPOLLIN ? fd : ~fd}};
+    must(!epoll_ctl(server.epoll, how, fd, &event), "epoll_ctl");
+}
 
 /* Commands on the list of a key, inside the store. */
 static void reply_bulk(connection *c, const char *bytes, size_t length) {
@@ -120,16 +129,19 @@ static void blpop(connection *c) {
     if (end != c->w[2].at + c->w[2].length || !(seconds >= 0 && seconds < 1e9)) {
         fputs("-ERR timeout is not a float or out of range\r\n", c->out);
     } else if (!store_enter_to_wait(&place)) {
-        fputs(TOO_MANY_WAIT, c->out);
+        fputs("-ERR too many clients wait\r\n", c->out);
     } else {
         server.waiting++;
         list *l = list_of(c->w[1]);
-        bool may_wait = l->count || store_await(place, l, seconds > 0 ? (uint64_t)(seconds * 1000) + 1 : UINT64_MAX);
+        if (!l->count) {
+            poll_for(c->fd, EPOLL_CTL_MOD, EPOLLRDHUP | EPOLLONESHOT); /* inside: a cancel finds that the wait began */
+            store_await(place, l, c->fd, seconds > 0 ? (uint64_t)(seconds * 1000) + 1 : UINT64_MAX);
+        }
         item *x = list_pop(l, true);
         store_leave(place, l);
         server.waiting--;
         if (x) deliver(c, x);
-        else fputs(may_wait ? "*-1\r\n" : TOO_MANY_WAIT, c->out);
+        else fputs("*-1\r\n", c->out);
     }
 }
 static void ping(connection *c) { fputs("+PONG\r\n", c->out); }
@@ -202,12 +214,6 @@ static void serve(connection *c) { /* reads once, and answers the commands that 
 }
 
 /* Threads. */
-static void must(bool is_well, const char *what) {
-    if (!is_well) perror(what), exit(1);
-}
-static void poll_for(int fd, int how, uint32_t events) {
-    must(!epoll_ctl(server.epoll, how, fd, &(struct epoll_event){events, {.fd = fd}}), "epoll_ctl");
-}
 static void close_connection(connection *c) {
     if (!c) return;
     server.open[c->fd] = NULL;
@@ -245,9 +251,11 @@ static void poll_once(void) {
     unsigned count = 0;
     int n = epoll_wait(server.epoll, event, BATCH, -1);
     for (int i = 0; i < n; i++) {
-        if (event[i].data.fd == server.stop) server.stops = true;
-        else if (event[i].data.fd == server.listener) accept_connection();
-        else ready[count++] = server.open[event[i].data.fd];
+        int fd = event[i].data.fd;
+        if (fd == server.stop) server.stops = true;
+        else if (fd == server.listener) accept_connection();
+        else if (fd >= 0) ready[count++] = server.open[fd];
+        else store_cancel(~fd); /* the client is gone, and may still wait */
     }
     for (unsigned i = 0; i < count; i += APPEND)
         queue_append(ready + i, count - i < APPEND ? count - i : APPEND);

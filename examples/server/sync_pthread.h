@@ -39,18 +39,21 @@ static void queue_close(void) {
     pthread_cond_broadcast(&queue.nonempty);
 }
 
-/* The store. A list for which clients wait has one of the condition variables. */
+/* The store. Each client that waits has a condition variable, and the one that waits longest for a list is signalled.
+ * Before it is inside, a client that comes, or whose time is over, may get its item. */
 struct waiting {
-    pthread_cond_t some;
-    unsigned clients; /* those that wait, and those that were signalled and aren't inside yet */
+    TAILQ_ENTRY(waiting) beside;
+    pthread_cond_t resumed;
+    bool taken, ends;
+    int fd; /* the client's */
 };
 static struct {
     pthread_mutex_t lock;
     struct waiting waiting[MOST_WAITS];
-    uint32_t waits, most_waits;
+    uint32_t most_waits;
     bool closed;
 } store = {.lock = PTHREAD_MUTEX_INITIALIZER};
-enum { NO_WAIT, WAIT }; /* instead of the number of a place */
+enum { NO_WAIT = MOST_WAITS }; /* instead of the number of a place */
 
 static uint32_t store_enter(void) {
     pthread_mutex_lock(&store.lock);
@@ -58,39 +61,42 @@ static uint32_t store_enter(void) {
 }
 static bool store_enter_to_wait(uint32_t *place) {
     pthread_mutex_lock(&store.lock);
-    bool may_wait = store.waits < store.most_waits;
-    if (may_wait) store.waits++;
+    for (*place = 0; *place < store.most_waits && store.waiting[*place].taken;) ++*place;
+    bool may_wait = *place < store.most_waits;
+    if (may_wait) store.waiting[*place].taken = true;
     else pthread_mutex_unlock(&store.lock);
-    *place = WAIT;
     return may_wait;
 }
-static bool store_await(uint32_t place, list *l, uint64_t milliseconds) {
+static void store_await(uint32_t place, list *l, int fd, uint64_t milliseconds) {
     struct timespec until = {0, 0};
-    struct waiting *w = l->waiting;
-    (void)place;
-    for (unsigned i = 0; !w; i++)
-        if (!store.waiting[i].clients) w = &store.waiting[i]; /* there is one: at most MOST_WAITS clients wait */
-    l->waiting = w, w->clients++;
+    struct waiting *w = &store.waiting[place];
+    w->fd = fd, w->ends = false;
+    TAILQ_INSERT_TAIL(&l->waiting, w, beside);
     clock_gettime(CLOCK_MONOTONIC, &until);
     uint64_t nanoseconds = (uint64_t)until.tv_nsec + milliseconds % 1000 * 1000000;
     until.tv_sec += (time_t)(milliseconds / 1000 + nanoseconds / 1000000000);
     until.tv_nsec = (long)(nanoseconds % 1000000000);
-    for (int over = 0; !l->count && !store.closed && !over;)
-        over = milliseconds == UINT64_MAX ? pthread_cond_wait(&w->some, &store.lock)
-                                        : pthread_cond_timedwait(&w->some, &store.lock, &until);
-    if (!--w->clients) l->waiting = NULL;
-    return true;
+    for (int over = 0; !l->count && !store.closed && !w->ends && !over;)
+        over = milliseconds == UINT64_MAX ? pthread_cond_wait(&w->resumed, &store.lock)
+                                        : pthread_cond_timedwait(&w->resumed, &store.lock, &until);
+    TAILQ_REMOVE(&l->waiting, w, beside);
 }
 static void store_leave(uint32_t place, list *l) {
-    if (l->count && l->waiting) pthread_cond_signal(&l->waiting->some);
+    if (l->count && !TAILQ_EMPTY(&l->waiting)) pthread_cond_signal(&TAILQ_FIRST(&l->waiting)->resumed);
     list_drop(l);
-    if (place == WAIT) store.waits--;
+    if (place != NO_WAIT) store.waiting[place].taken = false;
+    pthread_mutex_unlock(&store.lock);
+}
+static void store_cancel(int fd) {
+    pthread_mutex_lock(&store.lock);
+    for (struct waiting *w = store.waiting; w < store.waiting + MOST_WAITS; w++)
+        if (w->taken && w->fd == fd) w->ends = true, pthread_cond_signal(&w->resumed);
     pthread_mutex_unlock(&store.lock);
 }
 static void store_close(void) {
     pthread_mutex_lock(&store.lock);
     store.closed = true;
-    for (unsigned i = 0; i < MOST_WAITS; i++) pthread_cond_broadcast(&store.waiting[i].some);
+    for (unsigned i = 0; i < MOST_WAITS; i++) pthread_cond_signal(&store.waiting[i].resumed);
     pthread_mutex_unlock(&store.lock);
 }
 
@@ -98,7 +104,7 @@ static void sync_make(uint32_t waits) {
     pthread_condattr_t how;
     pthread_condattr_init(&how);
     pthread_condattr_setclock(&how, CLOCK_MONOTONIC);
-    for (unsigned i = 0; i < MOST_WAITS; i++) pthread_cond_init(&store.waiting[i].some, &how);
+    for (unsigned i = 0; i < MOST_WAITS; i++) pthread_cond_init(&store.waiting[i].resumed, &how);
     pthread_condattr_destroy(&how);
     store.most_waits = waits;
 }

@@ -56,31 +56,33 @@ static void queue_close(void) {
     ZAULINTE_CHECK(zaulinte_signal_leave(&queue.m, POLLER, NONEMPTY, NULL));
 }
 
-/* The store. A list for which clients wait has one of the conditions, and the deadline of a wait is its priority: an
- * item goes to the client that is due first, and to those without a limit last, in the order of their arrival. The
- * visits have places of their own: else the clients that wait could take all, and no push would get one. */
-enum { CONDITIONS = 8, VISITS = 62 - MOST_WAITS, CLOSER = 62, CLOCK };
+/* The store. All clients that wait do so on one condition. An item goes to the client that waits longest for its list,
+ * by a signal to that client's place. The priority of a wait is its place: so `store_ready` knows which client resumes.
+ * The visits have places of their own: else the clients that wait could take all, and no push would get one. */
+enum { ITEM, VISITS = 62 - MOST_WAITS, MAIN = 62 /* the main thread's place */, CLOCK };
 struct waiting {
-    limit limit;
-    list *on; /* NULL: no client waits on this condition */
+    TAILQ_ENTRY(waiting) beside;
+    list *on; /* NULL: no client waits by this place */
+    int fd;   /* the client's */
 };
 static struct {
     zaulinte_monitor m;
     zaulinte_group waits, visits;
     limit_clock clock;
-    struct waiting waiting[CONDITIONS];
+    limit limit;
+    struct waiting waiting[MOST_WAITS]; /* by their places */
     bool closed;
 } store;
 static bool store_rest(void *unused, const zaulinte_waiting *waiting) {
-    const struct waiting *w = store.waiting;
-    uint32_t c = 0;
-    while (c < CONDITIONS && !w[c].on == !waiting->count[c] && !(w[c].on && w[c].on->count)) c++;
-    return (void)unused, c == CONDITIONS;
+    uint64_t clients = 0, wrong = store.limit.by_clock;
+    for (const struct waiting *w = store.waiting; w < store.waiting + MOST_WAITS; w++)
+        if (w->on) clients++, wrong += store.closed || w->on->count;
+    return (void)unused, !wrong && clients == waiting->count[ITEM];
 }
-static bool store_ready(void *unused, uint32_t condition, uint64_t priority, const zaulinte_waiting *waiting) {
-    (void)unused, (void)priority, (void)waiting;
-    const struct waiting *w = &store.waiting[condition];
-    return w->on && (w->limit.by_clock || store.closed || w->on->count);
+static bool store_ready(void *unused, uint32_t condition, uint64_t place, const zaulinte_waiting *waiting) {
+    (void)unused, (void)condition, (void)waiting;
+    const struct waiting *w = &store.waiting[place];
+    return store.limit.by_clock || store.closed || (w->on->count && w == TAILQ_FIRST(&w->on->waiting));
 }
 static uint32_t store_enter(void) { return enter_by(&store.visits, &store.m); }
 static bool store_enter_to_wait(uint32_t *place) {
@@ -88,32 +90,33 @@ static bool store_enter_to_wait(uint32_t *place) {
     ZAULINTE_CHECK(zaulinte_enter(&store.m, *place));
     return true;
 }
-static bool store_await(uint32_t place, list *l, uint64_t milliseconds) {
-    struct waiting *w = l->waiting;
-    if (store.closed) return true;
-    for (uint32_t c = 0; !w && c < CONDITIONS; c++)
-        if (!store.waiting[c].on) w = &store.waiting[c];
-    if (!w) return false;
-    w->on = l, l->waiting = w;
-    uint64_t deadline = limit_deadline(milliseconds);
-    limit_wait(&w->limit, place, deadline, deadline);
-    bool others_wait;
-    ZAULINTE_CHECK(zaulinte_queue(&store.m, place, w->limit.condition, &others_wait));
-    if (!others_wait) w->on = NULL, l->waiting = NULL;
-    return true;
+static void store_await(uint32_t place, list *l, int fd, uint64_t milliseconds) {
+    struct waiting *w = &store.waiting[place];
+    if (store.closed) return;
+    w->on = l, w->fd = fd;
+    TAILQ_INSERT_TAIL(&l->waiting, w, beside);
+    limit_wait(&store.limit, place, place, limit_deadline(milliseconds));
+    TAILQ_REMOVE(&l->waiting, w, beside);
+    w->on = NULL;
 }
 static void store_leave(uint32_t place, list *l) {
-    struct waiting *next = store.closed || l->count ? l->waiting : NULL;
+    struct waiting *next = l->count ? TAILQ_FIRST(&l->waiting) : NULL;
     list_drop(l);
-    if (next) ZAULINTE_CHECK(zaulinte_signal_leave(&store.m, place, next->limit.condition, NULL));
+    if (next) ZAULINTE_CHECK(zaulinte_signal_to(&store.m, place, ITEM, (uint32_t)(next - store.waiting), NULL));
+    if (store.closed) ZAULINTE_CHECK(zaulinte_signal_leave(&store.m, place, ITEM, NULL));
     else ZAULINTE_CHECK(zaulinte_leave(&store.m, place));
     ZAULINTE_CHECK(zaulinte_give_back(place < MOST_WAITS ? &store.waits : &store.visits, place));
 }
+static void store_cancel(int fd) {
+    ZAULINTE_CHECK(zaulinte_enter(&store.m, MAIN));
+    for (uint32_t k = 0; k < MOST_WAITS; k++)
+        if (store.waiting[k].on && store.waiting[k].fd == fd) limit_cancel(&store.limit, MAIN, k);
+    ZAULINTE_CHECK(zaulinte_leave(&store.m, MAIN));
+}
 static void store_close(void) {
-    ZAULINTE_CHECK(zaulinte_enter(&store.m, CLOSER));
+    ZAULINTE_CHECK(zaulinte_enter(&store.m, MAIN));
     store.closed = true;
-    for (uint32_t c = 0; c < CONDITIONS; c++) ZAULINTE_CHECK(zaulinte_signal(&store.m, CLOSER, c, NULL));
-    ZAULINTE_CHECK(zaulinte_leave(&store.m, CLOSER));
+    ZAULINTE_CHECK(zaulinte_signal_leave(&store.m, MAIN, ITEM, NULL)); /* a client that resumes lets the next one */
 }
 
 static void sync_make(uint32_t waits) {
@@ -121,13 +124,12 @@ static void sync_make(uint32_t waits) {
     ZAULINTE_CHECK(zaulinte_group_make(&queue.takers, &queue.m, 0, TAKERS));
     zaulinte_check(&queue.m, queue_inv, queue_rest, queue_ready, NULL);
     zaulinte_name(&queue.m, "queue", "nonfull, nonempty");
-    ZAULINTE_CHECK(zaulinte_make(&store.m, CLOCK + 1, CONDITIONS, 0));
+    ZAULINTE_CHECK(zaulinte_make(&store.m, CLOCK + 1, 1, 0));
     ZAULINTE_CHECK(zaulinte_group_make(&store.waits, &store.m, 0, waits));
     ZAULINTE_CHECK(zaulinte_group_make(&store.visits, &store.m, MOST_WAITS, VISITS));
     zaulinte_check(&store.m, NULL, store_rest, store_ready, NULL);
-    zaulinte_name(&store.m, "store", NULL);
-    for (uint32_t c = 0; c < CONDITIONS; c++)
-        limit_clock_add(&store.clock, &store.waiting[c].limit, &store.m, c, CLOCK);
+    zaulinte_name(&store.m, "store", "item");
+    limit_clock_add(&store.clock, &store.limit, &store.m, ITEM, CLOCK);
     limit_test(limit_clock_start(&store.clock));
 }
 static void sync_free(void) {

@@ -16,13 +16,13 @@ typedef struct item {
     size_t length;
     char bytes[]; /* and a 0 */
 } item;
-/* A key with its items. It is in the table while it has an item, or clients wait for one: then `waiting`, which belongs
- * to sync_*.h, isn't NULL. */
+/* A key with its items, and the clients that wait for one, in the order of their arrival: sync_*.h has what such a
+ * client is. It is in the table while it has an item, or a client waits. */
 typedef struct list {
     word key;
     TAILQ_HEAD(items, item) items;
+    TAILQ_HEAD(, waiting) waiting;
     size_t count;
-    struct waiting *waiting;
     char bytes[]; /* of the key */
 } list;
 static void *table; /* of tsearch */
@@ -44,12 +44,13 @@ static inline list *list_of(word key) {
     l = memory(sizeof *l + key.length);
     l->key = (word){memcpy(l->bytes, key.at, key.length), key.length};
     TAILQ_INIT(&l->items);
+    TAILQ_INIT(&l->waiting);
     if (!tsearch(l, &table, list_order)) abort();
     return l;
 }
 /* Frees a list if it isn't needed: it has no item, and no client waits for one. */
 static inline void list_drop(list *l) {
-    if (l->count || l->waiting) return;
+    if (l->count || !TAILQ_EMPTY(&l->waiting)) return;
     tdelete(l, &table, list_order);
     free(l);
 }

@@ -7,7 +7,7 @@ use crate::tests::compared::{expect_same, reads_as, refused};
 use crate::tests::row::{baton, ticket};
 use any_door::{AnyDoor, DoorKind};
 use baton_door::door::Door;
-use door_frame::calls::begin_wait;
+use door_frame::calls::{begin_signal_to, begin_wait};
 use door_frame::patience::Patience;
 use door_frame::place::Outside;
 use door_frame::status::{Holder, Status};
@@ -19,7 +19,7 @@ use std::sync::Wait;
 use test_support::tally::{Tally, calls_all, tries_once};
 use test_support::{on_baton_door, on_ticket_door};
 use ticket_door::door::TicketDoor;
-use wait_book::steps::MakeRefused;
+use wait_book::steps::{MakeRefused, Next};
 
 // Fails the test unless both doors of `N` conditions refuse this number of places with `wanted`, and return the data.
 fn both_refuse<const N: usize, R: Abort>(
@@ -98,8 +98,8 @@ fn one_place_calls_all(host: HostRuntime) {
     }
 }
 
-// `last` makes the calls of `calls_all`, enters and begins to wait, and `other` hands the monitor off to it. Returns
-// what the door's words say before `last` enters, while it is inside, and before it resumes.
+// `last`, place 63, makes the calls of `calls_all`, enters and begins to wait, and `other` begins to signal to it.
+// Returns what the door's words say before `last` enters, while it is inside, and before it resumes.
 fn statuses<R: Wait + Abort>(
     rt: &R,
     door: &AnyDoor<Tally>,
@@ -115,7 +115,16 @@ fn statuses<R: Wait + Abort>(
     let inside = door.enter(rt, last);
     let between = door.status();
     let (_away, _next) = begin_wait(&**door, inside, 0, 0);
-    let (_out, _resumed) = door.signal_leave(rt, door.enter(rt, other), 0);
+    let inside = door.enter(rt, other);
+    let waits = (inside.has_waiter(0, 62), inside.has_waiter(0, 63));
+    expect_same(rt, waits, (false, true));
+    match begin_signal_to(&**door, inside, 0, 63) {
+        Ok((_away, next)) => expect_same(rt, next, Next::For(63)),
+        Err(inside) => {
+            let _out = door.leave(rt, inside);
+            panic!(rt; "place 63 doesn't wait")
+        }
+    }
     [before, between, door.status()]
 }
 

@@ -21,8 +21,8 @@ const WAITERS: usize = 3;
 /// back and writes 5. Then places 0 and 2 resume in the order of their priorities, and write 1 and 3.
 const VALUE: u64 = 2513;
 
-/// What each place returns. The signaller's digits: of its two signals to place 1 only the first resumed it, and each of
-/// its two signals resumed a waiter.
+/// What each place returns. The signaller's digits say which of its calls resumed a waiter: of its two signals to place
+/// 1 only the first did, and then both signals did.
 const ANSWERS: [u64; WAITERS + 1] = [0, 0, 0, 1011];
 
 // Appends a decimal digit to the answers: 1 if the call resumed a waiter, else 0.

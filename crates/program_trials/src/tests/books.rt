@@ -66,7 +66,11 @@ fn a_signal_to_a_place_keeps_the_order(rt: HostRuntime) -> Result<(), Fail> {
     book.try_step(Step::Enter(2))?;
     book.try_step(Step::Wait(2, 0, 4))?;
     book.try_step(Step::Enter(3))?;
-    let waits = (book.has_waiter(0, 2), book.has_waiter(1, 2), book.has_waiter(0, 3));
+    let waits = (
+        book.has_waiter(0, 2),
+        book.has_waiter(1, 2),
+        book.has_waiter(0, 3),
+    );
     expect_same(&rt, waits, (true, false, false));
     let answers = [
         book.try_signal_to(3, 1, 2), // it waits on condition 0

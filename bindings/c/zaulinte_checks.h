@@ -70,6 +70,9 @@ static void check_signal(zaulinte_monitor *m, uint32_t place, uint32_t c) {
     test_inv(m, place, "signals ", name_of(m, c).text);
     m->signaller = place;
 }
+static void check_signal_to(zaulinte_monitor *m, uint32_t place, uint32_t c, uint32_t waiter) {
+    if (waits_on(m, waiter, c)) check_signal(m, place, c);
+}
 static void check_signal_leave(zaulinte_monitor *m, uint32_t place, uint32_t c) {
     if (c >= m->hoare) return;
     if (zaulinte_door_queue(at(m, place), c)) check_signal(m, place, c);
@@ -104,6 +107,7 @@ static void check_address(zaulinte_monitor *m) {
 #define check_leave(m, place) ((void)(m))
 #define check_wait(m, place, condition, priority) ((void)(m))
 #define check_signal(m, place, condition) ((void)(m))
+#define check_signal_to(m, place, condition, waiter) ((void)(m))
 #define check_signal_leave(m, place, condition) ((void)(m))
 #define check_ready(m, place, condition, priority) ((void)(m))
 #define check_enter(m, place) ((void)(m))

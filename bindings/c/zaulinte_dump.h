@@ -32,6 +32,11 @@ static uint32_t next_away(zaulinte_monitor *m, int why, uint32_t condition, uint
     }
     return found;
 }
+/* Returns true if the place, of any number, waits on the condition. Exact if it is called by the place inside. */
+static inline bool waits_on(zaulinte_monitor *m, uint32_t place, uint32_t condition) {
+    if (place >= m->places || NOTED(m->place[place].away) != WAITS) return false;
+    return NOTED(m->place[place].condition) == condition;
+}
 /* Notes of so many waiters on `condition` that they were notified. */
 static void note_notified(zaulinte_monitor *m, uint32_t condition, uint64_t many) {
     for (; many-- > 0;) {

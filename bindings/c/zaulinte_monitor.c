@@ -172,6 +172,14 @@ uint64_t zaulinte_wait(ON, uint64_t priority) {
     check_ready(m, place, condition, priority);
     return 0;
 }
+/* Ends a signal whose step returned `next`. Blocks until `place` is inside again if another place was resumed. */
+static inline uint64_t signalled(zaulinte_monitor *m, uint32_t place, uint64_t next, bool *resumed) {
+    if (next >= NOBODY) note_here(m, place);
+    if (next > NOBODY) return next;
+    if (resumed) *resumed = next < NOBODY;
+    if (next < NOBODY) resumes(m, place, next);
+    return 0;
+}
 uint64_t zaulinte_signal(ON, bool *resumed) {
     uint64_t refused = may_act_on(m, place, condition);
     if (refused) return refused;
@@ -179,12 +187,16 @@ uint64_t zaulinte_signal(ON, bool *resumed) {
     NOTE_ACT(SIGNAL, condition, 0);
     note_away(m, place, HAS_SIGNALLED, condition, 0);
     visit_ends(m);
-    uint64_t next = zaulinte_door_signal(at(m, place), condition);
-    if (next >= NOBODY) note_here(m, place);
-    if (next > NOBODY) return next;
-    if (resumed) *resumed = next < NOBODY;
-    if (next < NOBODY) resumes(m, place, next);
-    return 0;
+    return signalled(m, place, zaulinte_door_signal(at(m, place), condition), resumed);
+}
+uint64_t zaulinte_signal_to(ON, uint32_t waiter, bool *resumed) {
+    uint64_t refused = may_act_on(m, place, condition);
+    if (refused) return refused;
+    check_signal_to(m, place, condition, waiter);
+    NOTE_SIGNAL_TO(condition, waiter);
+    note_away(m, place, HAS_SIGNALLED, condition, 0);
+    visit_ends(m);
+    return signalled(m, place, zaulinte_door_signal_to(at(m, place), condition, waiter), resumed);
 }
 uint64_t zaulinte_signal_leave(ON, bool *resumed) {
     uint64_t waited = 0; /* MemorySanitizer doesn't see that the archive writes it */

@@ -176,6 +176,21 @@ ZAULINTE_CODE zaulinte_wait(zaulinte_monitor *m, uint32_t place, uint32_t condit
  * blocks until `place` returns. Returns 0, with `place` inside. Writes to *resumed, a word of the thread's own, true if
  * a place waited, else false; `resumed` may be NULL. Refused: 107, 101, 103, 104, 105, 106 a Mesa condition. */
 ZAULINTE_CODE zaulinte_signal(zaulinte_monitor *m, uint32_t place, uint32_t condition, bool *resumed);
+/* Lets `place` signal to the place `waiter` on `condition`, one of Hoare's. As `signal`, but if `waiter` waits on
+ * `condition`, it is the place that resumes, whichever places wait there before it; these keep their order. Returns 0,
+ * with `place` inside. Writes to *resumed, which may be NULL, true if `waiter` waited there. Else it writes false, and
+ * nothing happens: `waiter` is outside, inside or about to enter, has signalled, waits on another condition, or is no
+ * place. Refused: 107, 101, 103, 104, 105, 106 a Mesa condition.
+ *
+ * Use it to end a wait early: a time limit has passed, a client is gone, or the answer has come for one of many
+ * waiters, which the signaller finds by a key. A waiter can't tell by which call it was resumed. So before the call the
+ * signaller writes to the data why it resumes this waiter, and the waiter reads that when its `wait` returns.
+ *
+ * The caller owes what it owes at a `signal` (`zaulinte_check`): `inv`, and `ready` for this waiter, with its condition
+ * and its priority, while the others still wait. If `ready` says that there is an item, let it say so only of a wait
+ * that wasn't ended early. Hoare's paper has no such call: his signal resumes the first waiter. */
+ZAULINTE_CODE zaulinte_signal_to(zaulinte_monitor *m, uint32_t place, uint32_t condition, uint32_t waiter,
+                                 bool *resumed);
 /* Lets `place` signal `condition`, one of Hoare's, and leave, in one step; returns 0. Writes *resumed, and is refused,
  * as `signal`. */
 ZAULINTE_CODE zaulinte_signal_leave(zaulinte_monitor *m, uint32_t place, uint32_t condition, bool *resumed);
@@ -240,6 +255,8 @@ void zaulinte_at(const char *file, int line);
 #define zaulinte_leave(m, place) ZAULINTE_HERE(zaulinte_leave(m, place))
 #define zaulinte_wait(m, place, condition, priority) ZAULINTE_HERE(zaulinte_wait(m, place, condition, priority))
 #define zaulinte_signal(m, place, condition, resumed) ZAULINTE_HERE(zaulinte_signal(m, place, condition, resumed))
+#define zaulinte_signal_to(m, place, condition, waiter, resumed) \
+    ZAULINTE_HERE(zaulinte_signal_to(m, place, condition, waiter, resumed))
 #define zaulinte_signal_leave(m, place, condition, resumed) \
     ZAULINTE_HERE(zaulinte_signal_leave(m, place, condition, resumed))
 #define zaulinte_notify(m, place, condition, called) ZAULINTE_HERE(zaulinte_notify(m, place, condition, called))
@@ -289,12 +306,16 @@ void zaulinte_dump(zaulinte_monitor *m);
 size_t zaulinte_recording_size(size_t acts);
 /* Records the acts of all places from now on, in a ring in `memory`, of `size` bytes and aligned as `malloc`'s, which
  * the caller keeps until `zaulinte_free`; NULL ends the recording. Returns 0. Refused: 107 there is no monitor, 112 a
- * thread has a place, 111 the memory has no room for an act. */
+ * thread has a place, 111 the memory has no room for an act.
+ *
+ * A script has no line for `zaulinte_signal_to`. If it resumes the waiter that a `signal` would resume, it is recorded
+ * as that signal. If it resumes another waiter, the recording begins anew, in the state after it: the acts before it
+ * are lost. If it resumes none, nothing is recorded. */
 ZAULINTE_CODE zaulinte_record(zaulinte_monitor *m, void *memory, size_t size);
 /* Writes the recording to a file, as a script of docs/GUIDE.md: the script program replays it, and the page draws it.
- * If the ring overflowed, the script begins with acts that bring a new monitor into the state in which the ring
- * begins. Returns false if nothing is recorded, or the file can't be written. Call it by a place inside, while no
- * thread has a place, or from a debugger. */
+ * If the ring overflowed, or the recording began anew, the script begins with acts that bring a new monitor into the
+ * state in which the recording begins. Returns false if nothing is recorded, or the file can't be written. Call it by a
+ * place inside, while no thread has a place, or from a debugger. */
 bool zaulinte_save(zaulinte_monitor *m, const char *path);
 #endif
 

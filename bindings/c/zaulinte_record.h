@@ -3,7 +3,8 @@
  *
  * The place inside notes its act before its step, so the order of the notes is that of the history. That it entered is
  * noted with the first act of its visit: no other place acts in between. If the ring is full, its oldest act is first
- * taken into `start`, the state in which the ring begins. */
+ * taken into `start`, the state in which the ring begins. If a place that isn't the first waiter is signalled to, all
+ * acts of the ring are taken, and that signal too: the ring has only acts that a script has. */
 enum { ENTER, LEAVE, WAIT, SIGNAL, PASS, NOTIFY, BROADCAST };
 #if ZAULINTE_STDIO
 enum { IS_OUTSIDE, IS_INSIDE, IS_WAITING, IS_SIGNALLER, IS_NOTIFIED };
@@ -19,6 +20,7 @@ typedef struct standing {
 struct zaulinte_recording {
     standing start[64];
     uint64_t entered; /* the places whose entry was noted, and that haven't left since */
+    uint64_t begin;   /* the number of acts that were taken into `start` */
     uint64_t end;     /* the number of acts that were noted */
     uint64_t size;    /* of the ring */
     act ring[];
@@ -53,10 +55,13 @@ static void take(standing *all, const act *a, uint64_t number) {
     if (next == NOBODY) next = first_of(all, IS_NOTIFIED, 8);
     if (next < NOBODY) all[next].is = IS_INSIDE;
 }
+static void take_oldest(zaulinte_recording *r) {
+    take(r->start, &r->ring[r->begin % r->size], r->begin);
+    r->begin++;
+}
 static void add(zaulinte_recording *r, act a) {
-    act *to = &r->ring[r->end % r->size];
-    if (r->end >= r->size) take(r->start, to, r->end - r->size);
-    *to = a;
+    if (r->end - r->begin == r->size) take_oldest(r);
+    r->ring[r->end % r->size] = a;
     r->end++;
 }
 /* Notes an act of the place inside, unless its step will refuse the condition. */
@@ -70,8 +75,24 @@ APART void record(zaulinte_monitor *m, uint8_t kind, uint32_t place, uint64_t co
     add(r, (act){kind, (uint8_t)place, (uint8_t)condition, priority});
     r->entered = kind == LEAVE || kind == PASS ? r->entered & ~mine : r->entered | mine;
 }
+/* Begins anew, in the state after a signal of the place inside to the waiter. */
+static void begin_anew(zaulinte_recording *r, uint32_t place, uint32_t condition, uint32_t waiter) {
+    while (r->begin < r->end) take_oldest(r);
+    r->start[place] = (standing){IS_SIGNALLER, (uint8_t)condition, r->end * NOBODY, 0};
+    r->start[waiter].is = IS_INSIDE;
+    r->entered |= (uint64_t)1 << place;
+    r->begin = ++r->end;
+}
+/* Notes a signal of the place inside to the place `waiter`, if it waits there. */
+APART void record_signal_to(zaulinte_monitor *m, uint32_t place, uint32_t condition, uint32_t waiter) {
+    if (condition >= m->hoare || !waits_on(m, waiter, condition)) return;
+    if (next_away(m, WAITS, condition, NOBODY) == waiter) record(m, SIGNAL, place, condition, 0);
+    else begin_anew(m->recording, place, condition, waiter);
+}
 #define NOTE_ACT(kind, condition, priority) \
     do { if (m->recording) record(m, (kind), place, (condition), (priority)); } while (0)
+#define NOTE_SIGNAL_TO(condition, waiter) \
+    do { if (m->recording) record_signal_to(m, place, (condition), (waiter)); } while (0)
 
 size_t zaulinte_recording_size(size_t acts) { return sizeof(zaulinte_recording) + (acts ? acts : 1) * sizeof(act); }
 uint64_t zaulinte_record(zaulinte_monitor *m, void *memory, size_t size) {
@@ -129,14 +150,14 @@ bool zaulinte_save(zaulinte_monitor *m, const char *path) {
     zaulinte_recording *r = m->recording;
     FILE *to = r ? fopen(path, "w") : NULL;
     if (!to) return false;
-    uint64_t first = r->end > r->size ? r->end - r->size : 0;
     fprintf(to, "monitor %" PRIu32 " %d %d\n", (uint32_t)m->places, m->conditions, m->conditions - m->hoare);
     print_start(to, r->start);
-    for (uint64_t i = first; i < r->end; i++) print_act(to, r->ring[i % r->size]);
+    for (uint64_t i = r->begin; i < r->end; i++) print_act(to, r->ring[i % r->size]);
     print_silent(to, m);
     bool is_written = !ferror(to);
     return fclose(to) == 0 && is_written;
 }
 #else
 #define NOTE_ACT(kind, condition, priority) ((void)(kind))
+#define NOTE_SIGNAL_TO(condition, waiter) ((void)(waiter))
 #endif

@@ -17,6 +17,7 @@ static uint64_t made(const char *call, const uint64_t *n) {
     if (!strcmp(call, "leave")) return zaulinte_book_leave(&b, n[0]);
     if (!strcmp(call, "wait")) return zaulinte_book_wait(&b, n[0], n[1], n[2]);
     if (!strcmp(call, "signal")) return zaulinte_book_signal(&b, n[0], n[1]);
+    if (!strcmp(call, "signal_to")) return zaulinte_book_signal_to(&b, n[0], n[1], n[2]);
     if (!strcmp(call, "pass")) return zaulinte_book_pass(&b, n[0], n[1]);
     if (!strcmp(call, "notify")) return zaulinte_book_notify(&b, n[0], n[1]);
     if (!strcmp(call, "broadcast")) return zaulinte_book_broadcast(&b, n[0], n[1]);

@@ -53,6 +53,7 @@ static uint64_t returns(int k) { return zaulinte_door_try_return(&place[k]); }
 static uint64_t leaves(int k) { return zaulinte_door_leave(&place[k]); }
 static uint64_t waits(int k, uint64_t c, uint64_t p) { return zaulinte_door_wait(&place[k], c, p); }
 static uint64_t signals(int k, uint64_t c) { return zaulinte_door_signal(&place[k], c); }
+static uint64_t signals_to(int k, uint64_t c, uint64_t w) { return zaulinte_door_signal_to(&place[k], c, w); }
 static uint64_t notifies(int k, uint64_t c) { return zaulinte_door_notify(&place[k], c); }
 static uint64_t broadcasts(int k, uint64_t c) { return zaulinte_door_broadcast(&place[k], c); }
 static uint64_t queue(int k, uint64_t c) { return zaulinte_door_queue(&place[k], c); }
@@ -127,6 +128,7 @@ static void answers_of_no_place(zaulinte_door_place *p) {
     IS(zaulinte_door_leave(p), 107);
     IS(zaulinte_door_wait(p, UINT64_MAX, UINT64_MAX), 107);
     IS(zaulinte_door_signal(p, 0), 107);
+    IS(zaulinte_door_signal_to(p, UINT64_MAX, UINT64_MAX), 107);
     IS(zaulinte_door_signal_leave(p, UINT64_MAX, &kept), 107);
     IS(zaulinte_door_notify(p, 0), 107);
     IS(zaulinte_door_broadcast(p, 8), 107);
@@ -180,6 +182,8 @@ static void asks_on(int k, uint64_t c, uint64_t code) {
 static void acts_on(int k, uint64_t c, uint64_t code) {
     IS(waits(k, c, 0), code);
     IS(signals(k, c), code);
+    IS(signals_to(k, c, 0), code);
+    IS(signals_to(k, c, UINT64_MAX), code);
     exits(k, c, code, 77);
     IS(notifies(k, c), code);
     IS(broadcasts(k, c), code);
@@ -207,6 +211,7 @@ static void inside(int k) {
     acts_on(k, 2, 105);
     asks_on(k, UINT64_MAX, 105);
     IS(signals(k, 1), 106);
+    IS(signals_to(k, 1, 1), 106);
     exits(k, 1, 106, 77);
     IS(notifies(k, 0), 106);
     IS(broadcasts(k, 0), 106);
@@ -270,6 +275,43 @@ static void acts(void) {
     IS(enters(3), 64);
     exits(3, 0, 0, 1);
     returns_and_leaves(0, 64);
+    closes(5, 0);
+}
+
+/* A signal to a place resumes it, and no other; to any other number it does nothing. */
+static void wait_nowhere(int k, uint64_t c, uint64_t waiting) {
+    const uint64_t numbers[] = {0, 1, 2, 3, 4, 5, 63, 64, 65, 256, (uint64_t)1 << 32, UINT64_MAX};
+    for (size_t i = 0; i < sizeof numbers / sizeof *numbers; i++)
+        if (numbers[i] > 63 || !(waiting >> numbers[i] & 1)) IS(signals_to(k, c, numbers[i]), 64);
+    IS(state(k), 1);
+}
+static void signals_to_places(void) {
+    uint64_t found = 77;
+    opens(5, 3, 1, 0);
+    comes_to_wait(0, 0, 5);
+    comes_to_wait(1, 0, 7);
+    comes_to_wait(2, 0, 5);
+    comes_to_wait(4, 2, 5);
+    IS(enters(3), 64);
+    wait_nowhere(3, 1, 0);
+    wait_nowhere(3, 0, 7);
+    IS(signals_to(3, 0, 1), 1); /* neither the first, nor of the least priority */
+    IS(state(3), 2);
+    IS(returns(3), 102);
+    IS(returns(0), 102);
+    IS(returns(1), 64);
+    wait_nowhere(1, 0, 5);
+    IS(count(1, 0), 2);
+    IS(first(1, 0, &found), 1);
+    IS(found, 5);
+    IS(notifies(1, 2), 1);
+    IS(signals_to(1, 0, 2), 2); /* the last */
+    returns_and_leaves(2, 3);
+    returns_and_leaves(3, 1);
+    IS(returns(1), 64);
+    exits(1, 0, 0, 1);
+    returns_and_leaves(0, 4);
+    returns_and_leaves(4, 64);
     closes(5, 0);
 }
 
@@ -379,6 +421,7 @@ int main(void) {
     handles();
     refusals();
     acts();
+    signals_to_places();
     close_and_again();
     all_given_out_again();
     memory_refused();

@@ -6,6 +6,8 @@
  * - `admit K D`: K enters
  * - `wait K C P D`: K waits
  * - `signal K C D`: K signals, and a place waited
+ * - `signalto K C W D`: K signals to the place W, which waited on C
+ * - `absent K C W D`: K signals to W, which didn't wait on C
  * - `pass K C D`: K signals as its last act, and a place waited
  * - `leave K D`: K leaves
  * - `notify K C D`: K notifies, and a place waited
@@ -52,11 +54,12 @@ static unsigned least(const list *l) { /* the index of the least priority, of eq
         if (l->at[i].priority < l->at[best].priority) best = i;
     return best;
 }
-static bool is_in(const list *l, unsigned place) {
-    for (unsigned i = 0; i < l->many; i++)
-        if (l->at[i].place == place) return true;
-    return false;
+static unsigned index_of(const list *l, number place) { /* the place's, or `many` if it isn't in the list */
+    unsigned i = 0;
+    while (i < l->many && l->at[i].place != place) i++;
+    return i;
 }
+static bool is_in(const list *l, number place) { return index_of(l, place) < l->many; }
 static bool waits(unsigned place) {
     bool is = false;
     for (unsigned c = 0; c < conditions; c++) is = is || is_in(&waiting[c], place);
@@ -89,15 +92,21 @@ static list *on(unsigned c, bool mesa) {
     must(c < conditions && (c >= hoare) == mesa, "a condition of the other kind");
     return &waiting[c];
 }
-static waiter resumed(unsigned c) {
-    list *l = on(c, false);
-    must(l->many > 0, "no place waited");
-    return take_at(l, least(l));
-}
-static void hands_over(unsigned c) {
-    due.who = resumed(c);
+static void hands_to(waiter w) {
+    due.who = w;
     due.what = 'r';
     inside = NOBODY;
+}
+static void hands_over(unsigned c) {
+    list *l = on(c, false);
+    must(l->many > 0, "no place waited");
+    hands_to(take_at(l, least(l)));
+}
+static void signals_to(unsigned k, unsigned c, number w) {
+    list *l = on(c, false);
+    must(is_in(l, w), "the place doesn't wait there");
+    put_last(&signallers, (waiter){k, c, 0});
+    hands_to(take_at(l, index_of(l, w)));
 }
 static void calls_one(unsigned c) {
     list *l = on(c, true);
@@ -123,6 +132,8 @@ static bool reads(const char *text) {
     else if (!strcmp(kind, "wait") && many == 4) acts(k, n[3]), put_last(&waiting[c], (waiter){k, c, n[2]}), given_up();
     else if (!strcmp(kind, "signal") && many == 3)
         acts(k, n[2]), put_last(&signallers, (waiter){k, c, 0}), hands_over(c);
+    else if (!strcmp(kind, "signalto") && many == 4) acts(k, n[3]), signals_to(k, c, n[2]);
+    else if (!strcmp(kind, "absent") && many == 4) acts(k, n[3]), must(!is_in(on(c, false), n[2]), "the place waited");
     else if (!strcmp(kind, "pass") && many == 3) acts(k, n[2]), hands_over(c);
     else if (!strcmp(kind, "notify") && many == 3) acts(k, n[2]), calls_one(c);
     else if (!strcmp(kind, "broadcast") && many == 4) {

@@ -1,7 +1,8 @@
 /* Tests the codes of the monitor's calls that the stress doesn't cause: sizes, alignment, an allocation that fails,
  * texts. Then it tests how a thread sleeps. Each act that leaves the monitor free wakes it, and each of several
  * sleepers is woken in turn. It leaves out polls after those that missed. It sleeps once for each wait, and it still
- * sleeps if it is cancelled.
+ * sleeps if it is cancelled. Last it tests which of several waiters a signal to a place resumes, a clock that ends
+ * waits by it, and what is recorded of it.
  *
  * The test's own rattle_alloc fails at will, and counts the memory that is kept. counting_port.h counts what the port
  * does. */
@@ -58,6 +59,7 @@ static void by_no_place(uint32_t place) {
     IS(zaulinte_leave(&m, place), ZAULINTE_NO_PLACE);
     IS(zaulinte_wait(&m, place, 0, 0), ZAULINTE_NO_PLACE);
     IS(zaulinte_signal(&m, place, 0, NULL), ZAULINTE_NO_PLACE);
+    IS(zaulinte_signal_to(&m, place, 0, 0, NULL), ZAULINTE_NO_PLACE);
     IS(zaulinte_signal_leave(&m, place, 0, NULL), ZAULINTE_NO_PLACE);
     IS(zaulinte_notify(&m, place, 0, NULL), ZAULINTE_NO_PLACE);
     IS(zaulinte_broadcast(&m, place, 0, NULL), ZAULINTE_NO_PLACE);
@@ -119,6 +121,30 @@ static void places(void) {
     IS(zaulinte_count(&m, 0, 1, NULL), 0);
     IS(zaulinte_signal_leave(&m, 0, 0, NULL), 0);
     IS(zaulinte_leave(&m, 0), ZAULINTE_NOT_INSIDE);
+    IS(zaulinte_free(&m), 0);
+}
+/* the refusals of a signal to a place, in their order; and places that don't wait: nothing happens */
+static void signals_to_nobody(void) {
+    static const uint32_t numbers[] = {0, 1, PLACES, 63, 64, 65, 256, UINT32_MAX};
+    bool resumed = true;
+    IS(zaulinte_signal_to(&m, PLACES, 9, 0, &resumed), ZAULINTE_NO_BOOK);
+    IS(zaulinte_make(&m, PLACES, 2, 1), 0);
+    IS(zaulinte_signal_to(&m, PLACES, 9, 0, &resumed), ZAULINTE_NO_PLACE);
+    IS(zaulinte_signal_to(&m, 0, 9, 0, &resumed), ZAULINTE_NOT_INSIDE);
+    IS(zaulinte_enter(&m, 0), 0);
+    IS(zaulinte_signal_to(&m, 1, 9, 0, &resumed), ZAULINTE_NOT_INSIDE);
+    IS(zaulinte_signal_to(&m, 0, 2, 0, &resumed), ZAULINTE_NO_CONDITION);
+    IS(zaulinte_signal_to(&m, 0, UINT32_MAX, 1, &resumed), ZAULINTE_NO_CONDITION);
+    IS(zaulinte_signal_to(&m, 0, 1, 0, &resumed), ZAULINTE_WRONG_KIND);
+    IS(resumed, true);
+    for (size_t i = 0; i < sizeof numbers / sizeof *numbers; i++) {
+        resumed = true;
+        IS(zaulinte_signal_to(&m, 0, 0, numbers[i], &resumed), 0);
+        IS(resumed, false);
+        IS(m.place[0].away, 0); /* for a dump */
+    }
+    IS(zaulinte_signal_to(&m, 0, 0, 1, NULL), 0);
+    IS(zaulinte_leave(&m, 0), 0);
     IS(zaulinte_free(&m), 0);
 }
 /* whichever allocation fails, all that was taken is given back, and the next `make` succeeds */
@@ -325,10 +351,176 @@ static void cancelled(bool at_the_entrance) {
     IS(came_back && end == PTHREAD_CANCELED, true);
     IS(zaulinte_free(&m), 0);
 }
+
+/* A signal to a place resumes that place, whichever waits first, and the others keep their order. The waiters have
+ * their numbers in the order in which they came. A thread that resumes reads why, and notes its place. */
+enum { FIRST, SECOND, THIRD, CHOOSER, CHOICES, ITEM = 0, ROOM };
+enum { LIMITED = 5, CLOCK = LIMITED, SERVER, LIMITS };
+enum outcome { WAITING, SERVED, EXPIRED };
+static enum outcome outcome[LIMITED];
+static uint64_t priorities[LIMITED];
+static uint32_t came[LIMITED], many;
+static void *is_chosen(void *place) {
+    uint32_t me = (uint32_t)(uintptr_t)place;
+    ZAULINTE_CHECK(zaulinte_enter(&m, me));
+    outcome[me] = WAITING;
+    ZAULINTE_CHECK(zaulinte_wait(&m, me, ITEM, priorities[me]));
+    IS(outcome[me] != WAITING, true);
+    came[many++] = me;
+    ZAULINTE_CHECK(zaulinte_leave(&m, me));
+    return NULL;
+}
+/* Starts the threads of so many waiters, each once the one before waits, as the place `counter` finds. */
+static void wait_in_turn(pthread_t *ids, uint32_t waiters, void *(*does)(void *), uint32_t counter) {
+    uint64_t waiting = many = 0;
+    for (uintptr_t k = 0; waiting < waiters;) {
+        if (k == waiting) pthread_create(&ids[k], NULL, does, (void *)k), k++;
+        sched_yield();
+        IS(zaulinte_enter(&m, counter), 0);
+        IS(zaulinte_count(&m, counter, ITEM, &waiting), 0);
+        IS(zaulinte_leave(&m, counter), 0);
+    }
+}
+static bool signal_to(uint32_t condition, uint32_t place) {
+    bool resumed;
+    IS(zaulinte_signal_to(&m, CHOOSER, condition, place, &resumed), 0);
+    IS(m.place[CHOOSER].away, 0);
+    return resumed;
+}
+/* By the place inside: resumes the chosen waiter, and after it the others, in this order. */
+static void chooses(uint32_t chosen, uint32_t then, uint32_t last) {
+    IS(signal_to(ROOM, chosen), false); /* it waits on another condition */
+    IS(signal_to(ITEM, CHOOSER), false);
+    for (uint32_t past = 64; past; past *= 2) IS(signal_to(ITEM, chosen + past), false);
+    IS(many, 0);
+    outcome[chosen] = SERVED;
+    IS(signal_to(ITEM, chosen), true);
+    IS(many, 1);
+    IS(signal_to(ITEM, chosen), false); /* it is outside by now */
+    outcome[then] = outcome[last] = SERVED;
+    IS(zaulinte_signal(&m, CHOOSER, ITEM, NULL), 0);
+    IS(zaulinte_signal_to(&m, CHOOSER, ITEM, last, NULL), 0);
+    IS(many, CHOOSER);
+    IS(came[0], chosen), IS(came[1], then), IS(came[2], last);
+}
+static void resumes_the_chosen(bool by_priority) {
+    pthread_t ids[CHOOSER];
+    IS(zaulinte_make(&m, CHOICES, 2, 0), 0);
+    for (uint32_t k = 0; k < CHOOSER; k++) priorities[k] = by_priority ? CHOOSER - k : 5;
+    for (uint32_t chosen = FIRST; chosen <= THIRD; chosen++) {
+        uint32_t sooner = chosen == FIRST ? SECOND : FIRST, later = chosen == THIRD ? SECOND : THIRD;
+        wait_in_turn(ids, CHOOSER, is_chosen, CHOOSER);
+        IS(zaulinte_enter(&m, CHOOSER), 0);
+        chooses(chosen, by_priority ? later : sooner, by_priority ? sooner : later);
+        IS(zaulinte_leave(&m, CHOOSER), 0);
+        for (uint32_t k = 0; k < CHOOSER; k++) pthread_join(ids[k], NULL);
+    }
+    IS(zaulinte_free(&m), 0);
+}
+/* A clock ends the waits whose limit is over, in the middle of the others. These are served in their order. */
+static uint64_t over_at[LIMITED]; /* in milliseconds */
+static uint64_t now(void) {
+    struct timespec at;
+    clock_gettime(CLOCK_MONOTONIC, &at);
+    return (uint64_t)at.tv_sec * 1000 + (uint64_t)at.tv_nsec / 1000000;
+}
+static void *waits_with_limit(void *place) {
+    uint32_t me = (uint32_t)(uintptr_t)place;
+    bool is_limited = me % 2;
+    ZAULINTE_CHECK(zaulinte_enter(&m, me));
+    outcome[me] = WAITING;
+    over_at[me] = is_limited ? now() + 30 - 5 * me : UINT64_MAX; /* the last to come is the first to go */
+    ZAULINTE_CHECK(zaulinte_wait(&m, me, ITEM, 0));
+    IS(outcome[me], is_limited ? EXPIRED : SERVED);
+    IS(!is_limited || over_at[me] <= now(), true);
+    came[many++] = me;
+    ZAULINTE_CHECK(zaulinte_leave(&m, me));
+    return NULL;
+}
+static bool ends_wait(uint32_t place) {
+    bool resumed = false;
+    if (outcome[place] != WAITING || over_at[place] > now()) return false;
+    outcome[place] = EXPIRED;
+    IS(zaulinte_signal_to(&m, CLOCK, ITEM, place, &resumed), 0);
+    return resumed;
+}
+static void *ends_waits(void *unused) {
+    for (unsigned ended = 0; ended < LIMITED / 2; nanosleep(&(struct timespec){0, 1000000}, NULL)) {
+        ZAULINTE_CHECK(zaulinte_enter(&m, CLOCK));
+        ended += ends_wait(THIRD + 1);
+        ended += ends_wait(SECOND);
+        ZAULINTE_CHECK(zaulinte_leave(&m, CLOCK));
+    }
+    return unused;
+}
+static void limits(void) {
+    pthread_t ids[LIMITED], clock;
+    IS(zaulinte_make(&m, LIMITS, 1, 0), 0);
+    wait_in_turn(ids, LIMITED, waits_with_limit, SERVER);
+    pthread_create(&clock, NULL, ends_waits, NULL);
+    pthread_join(clock, NULL);
+    IS(zaulinte_enter(&m, SERVER), 0);
+    IS(many, 2);
+    for (uint32_t k = 0; k < LIMITED; k += 2) {
+        outcome[k] = SERVED;
+        IS(zaulinte_signal(&m, SERVER, ITEM, NULL), 0);
+        IS(came[2 + k / 2], k);
+    }
+    IS(zaulinte_leave(&m, SERVER), 0);
+    for (uint32_t k = 0; k < LIMITED; k++) pthread_join(ids[k], NULL);
+    IS(zaulinte_free(&m), 0);
+}
+/* What is recorded if the chosen place isn't the first waiter (the recording begins anew), if it is, and if it doesn't
+ * wait. The second waiter is chosen, and chooses the third; so there are two signallers. */
+#define BEGUN "monitor 4 2 0\nenter 1\nwait 1 0 0\nenter 0\nwait 0 0 5\nenter 2\nwait 2 0 5\nenter 3\nsignal 3 0\n"
+#define TWICE \
+    "monitor 4 2 0\nenter 1\nwait 1 0 0\nenter 2\nwait 2 0 0\nenter 0\nwait 0 0 5\nenter 3\nsignal 3 0\nsignal 1 0\n"
+static void is_saved(const char *wanted) {
+    char path[] = "/tmp/zaulinte_XXXXXX", saved[400] = "";
+    int from = mkstemp(path);
+    IS(from >= 0 && zaulinte_save(&m, path), true);
+    ssize_t bytes = pread(from, saved, sizeof saved - 1, 0);
+    close(from), unlink(path);
+    if (bytes > 0 && !strcmp(saved, wanted)) return;
+    fprintf(stderr, "monitor.c: recorded is:\n%sand not:\n%s", saved, wanted);
+    exit(1);
+}
+static void *saves(void *place) {
+    uint32_t me = (uint32_t)(uintptr_t)place;
+    ZAULINTE_CHECK(zaulinte_enter(&m, me));
+    ZAULINTE_CHECK(zaulinte_wait(&m, me, ITEM, 5));
+    if (me == SECOND) {
+        is_saved(BEGUN);
+        ZAULINTE_CHECK(zaulinte_signal_to(&m, me, ITEM, THIRD, NULL));
+    }
+    if (me == THIRD) is_saved(TWICE);
+    ZAULINTE_CHECK(zaulinte_leave(&m, me));
+    return NULL;
+}
+static void records_choices(size_t acts) {
+    size_t size = zaulinte_recording_size(acts);
+    void *memory = malloc(size);
+    pthread_t ids[CHOOSER];
+    IS(zaulinte_make(&m, CHOICES, 2, 0), 0);
+    IS(zaulinte_record(&m, memory, size), 0);
+    wait_in_turn(ids, CHOOSER, saves, CHOOSER);
+    IS(zaulinte_enter(&m, CHOOSER), 0);
+    IS(signal_to(ITEM, SECOND), true);
+    is_saved(TWICE "leave 2\n");
+    IS(signal_to(ROOM, FIRST) || signal_to(ITEM, SECOND) || signal_to(ITEM, 64), false);
+    is_saved(TWICE "leave 2\n");
+    IS(signal_to(ITEM, FIRST), true);
+    if (acts > 3) is_saved(TWICE "leave 2\nsignal 3 0\nleave 0\nleave 1\n");
+    IS(zaulinte_leave(&m, CHOOSER), 0);
+    for (uint32_t k = 0; k < CHOOSER; k++) pthread_join(ids[k], NULL);
+    IS(zaulinte_free(&m), 0);
+    free(memory);
+}
 int main(void) {
     alarm(120); /* if a thread sleeps for ever */
     sizes();
     places();
+    signals_to_nobody();
     memory();
     texts();
     for (int act = 0; act < ACTS; act++) wakes_entering(act);
@@ -340,6 +532,10 @@ int main(void) {
     for (int n = 0; n < 200; n++) deleted_while_left();
     cancelled(false);
     cancelled(true);
+    resumes_the_chosen(false);
+    resumes_the_chosen(true);
+    limits();
+    for (size_t acts = 1; acts < 100; acts += 49) records_choices(acts);
     keeps_nothing();
     return 0;
 }

@@ -65,7 +65,7 @@ static void *tries(void *p) {
 }
 /* a drawn call; `is_inside` is true if the thread entered and hasn't left */
 static void one_call(thread *t, bool is_inside) {
-    uint64_t number, lot = draw(t) % 8;
+    uint64_t number, lot = draw(t) % 9;
     if (lot < 3) {
         bool entered = !counted(t, zaulinte_enter(&m, SHARED));
         is(!entered || !is_inside, "a thread entered twice");
@@ -76,6 +76,7 @@ static void one_call(thread *t, bool is_inside) {
                     : lot == 4 ? zaulinte_signal_leave(&m, SHARED, CONDITION, NULL)
                     : lot == 5 ? zaulinte_wait(&m, SHARED, CONDITION, 0)
                     : lot == 6 ? zaulinte_signal(&m, SHARED, CONDITION, NULL)
+                    : lot == 7 ? zaulinte_signal_to(&m, SHARED, CONDITION, SHARED, NULL)
                                : zaulinte_count(&m, SHARED, CONDITION, &number);
     is((counted(t, code) == 0) == is_inside, "a call by another thread's place, or none by its own");
     t->left += lot < 5 && code == 0;

@@ -17,7 +17,8 @@ static void acts(uint32_t me) {
     ZAULINTE_CHECK(zaulinte_enter(&m, me));
     if (me <= 5) ZAULINTE_CHECK(zaulinte_wait(&m, me, waits[me].condition, waits[me].priority));
     if (me == 5) ZAULINTE_CHECK(zaulinte_broadcast(&m, me, CHANGED, NULL));
-    if (me >= 5) ZAULINTE_CHECK(zaulinte_signal(&m, me, NONEMPTY, NULL));
+    if (me == 5) ZAULINTE_CHECK(zaulinte_signal_to(&m, me, NONEMPTY, 0, NULL));
+    if (me > 5) ZAULINTE_CHECK(zaulinte_signal(&m, me, NONEMPTY, NULL));
     ZAULINTE_CHECK(zaulinte_broadcast(&m, me, CHANGED, NULL)); /* place 0 alone comes so far */
     items++;
     pause();

@@ -1,8 +1,8 @@
 /* Eight threads and a sweeper at one monitor of three of Hoare's conditions and a Mesa condition, with drawn waits,
- * priorities, signals, notifies and broadcasts, and with misuse, which has to be refused. The thread inside writes the
- * log, and judge.c reads it: stress CALLS [SEED [SECONDS [FOLDER]]] | judge. If SECONDS isn't 0 it fails if it takes
- * longer, and prints the log so far. With FOLDER it records its last 2 * SEED acts, and the sweeper now and then saves
- * them there as a script. */
+ * priorities, signals, signals to a drawn place, notifies and broadcasts, and with misuse, which has to be refused. The
+ * thread inside writes the log, and judge.c reads it: stress CALLS [SEED [SECONDS [FOLDER]]] | judge. If SECONDS isn't
+ * 0 it fails if it takes longer, and prints the log so far. With FOLDER it records its last 2 * SEED acts, and the
+ * sweeper now and then saves them there as a script. */
 #define _GNU_SOURCE
 #include "zaulinte_monitor.h"
 #include <inttypes.h>
@@ -14,9 +14,9 @@
 #include <unistd.h>
 
 enum { WORKERS = 8, PLACES = WORKERS + 1, SPARE = PLACES, HOARE = 3, MESA = 3, CONDITIONS = 4 };
-enum kind { ADMIT, LEAVE, BACK, RESUME, WAIT, SIGNAL, PASS, NOTIFY, BROADCAST, EMPTY, ASKED };
-static const char *const names[] = {"admit",  "leave",  "back",      "resume", "wait", "signal",
-                                    "pass",   "notify", "broadcast", "empty",  "asked"};
+enum kind { ADMIT, LEAVE, BACK, RESUME, WAIT, SIGNAL, SIGNAL_TO, ABSENT, PASS, NOTIFY, BROADCAST, EMPTY, ASKED };
+static const char *const names[] = {"admit",  "leave", "back",   "resume",    "wait",  "signal", "signalto",
+                                    "absent", "pass",  "notify", "broadcast", "empty", "asked"};
 typedef struct {
     enum kind kind;
     uint32_t place, condition;
@@ -26,6 +26,7 @@ static zaulinte_monitor m;
 static event *events;
 static size_t many, room;
 static uint64_t data, finished; /* plain: touched only inside */
+static uint32_t waits_on[PLACES]; /* 1 + the condition of its wait, or 0; touched only inside */
 static const char *folder; /* for the recordings */
 
 static void shows(void);
@@ -75,13 +76,30 @@ static uint64_t asks(uint32_t me, uint32_t c) {
 }
 static void waits(uint32_t me, uint32_t c, uint64_t priority) {
     put(WAIT, me, c, priority, 0);
+    waits_on[me] = c + 1;
     is(zaulinte_wait(&m, me, c, priority), 0);
+    waits_on[me] = 0;
     put(RESUME, me, c, 0, 0);
 }
 static void signals(uint32_t me, uint32_t c) {
     bool was = somebody(me, c), resumed = !was;
     put(was ? SIGNAL : EMPTY, me, c, 0, 0);
     is(zaulinte_signal(&m, me, c, &resumed), 0);
+    is(resumed, was);
+    if (was) put(BACK, me, 0, 0, 0);
+}
+/* Returns the first place, from a drawn one on, that waits on the condition, or the drawn one if none does. */
+static uint32_t waiter_from(uint32_t drawn, uint32_t c) {
+    for (uint32_t k = 0; k < PLACES; k++)
+        if (waits_on[(drawn + k) % PLACES] == c + 1) return (drawn + k) % PLACES;
+    return drawn;
+}
+/* Signals to any waiter on the condition, or to any place, also the spare one, and places that there aren't. */
+static void signals_to(uint32_t me, uint32_t c, uint64_t lot) {
+    uint32_t drawn = (uint32_t)(lot / 2 % (2 * PLACES)), to = lot % 2 ? waiter_from(drawn, c) : drawn;
+    bool was = to < PLACES && waits_on[to] == c + 1, resumed = !was;
+    put(was ? SIGNAL_TO : ABSENT, me, c, to, 0);
+    is(zaulinte_signal_to(&m, me, c, to, &resumed), 0);
     is(resumed, was);
     if (was) put(BACK, me, 0, 0, 0);
 }
@@ -104,7 +122,7 @@ static void acts_for_another(uint32_t other) {
     is(code, code == ZAULINTE_NOT_OUTSIDE ? code : ZAULINTE_NOT_INSIDE);
 }
 static void misuses(uint32_t me, uint64_t lot) {
-    switch (lot % 9) {
+    switch (lot % 10) {
     case 0: is(zaulinte_wait(&m, me, CONDITIONS, 0), ZAULINTE_NO_CONDITION); break;
     case 1: acts_for_another((me + 1) % PLACES); break;
     case 2: is(zaulinte_enter(&m, me), ZAULINTE_NOT_OUTSIDE); break;
@@ -113,6 +131,7 @@ static void misuses(uint32_t me, uint64_t lot) {
     case 5: is(zaulinte_wait(&m, UINT32_MAX, 0, 0), ZAULINTE_NO_PLACE); break;
     case 6: is(zaulinte_try_enter(&m, SPARE), ZAULINTE_NOT_FREE); break; /* a place that no thread has */
     case 7: is(zaulinte_free(&m), ZAULINTE_IN_USE); break;
+    case 8: is(zaulinte_signal_to(&m, me, MESA, SPARE, NULL), ZAULINTE_WRONG_KIND); break;
     default: is(zaulinte_make(&m, 1, 1, 0), ZAULINTE_IS_MADE);
     }
 }
@@ -123,11 +142,12 @@ static void passes(uint32_t me, uint32_t c) {
     is(resumed, was);
 }
 static void step(uint32_t me, uint64_t lot) {
-    uint64_t waiting = 0;
-    for (uint32_t c = 0; c < CONDITIONS; c++) waiting += asks(me, c);
+    uint64_t waiting = 0, count[CONDITIONS];
+    for (uint32_t c = 0; c < CONDITIONS; c++) waiting += count[c] = asks(me, c);
     uint32_t c = (uint32_t)(lot / 8 % CONDITIONS);
     if (lot % 8 < 4 && waiting < WORKERS / 2) waits(me, c, lot / 64 % 4);
     else if (c == MESA) calls(me, lot / 64 % 2);
+    else if (lot / 64 % (count[c] > 1 ? 2 : 8) == 0) signals_to(me, c, lot / 512);
     else signals(me, c);
     data++;
     if (lot / 1024 % 4 == 0) misuses(me, lot / 4096);
@@ -182,6 +202,7 @@ static void *sweeps(void *p) {
         comes(j->me);
         if (finished == WORKERS) break;
         if (turn % 2) calls(j->me, true);
+        else signals_to(j->me, turn / 2 % HOARE, draw(&j->seed));
         if (folder && turn < 400) saves(j->me, turn);
         passes(j->me, turn % HOARE);
         sched_yield();
@@ -194,13 +215,16 @@ static void *watches(void *seconds) {
     fails("the time is over");
     return NULL;
 }
+static bool has_number(enum kind k) {
+    return k == WAIT || k == SIGNAL_TO || k == ABSENT || k == BROADCAST || k == ASKED;
+}
 static void shows(void) {
     printf("sizes %d %d 1\n", PLACES, CONDITIONS); /* the spare place never enters */
     for (size_t i = 0; i < many; i++) {
         event e = events[i];
         printf("%s %" PRIu32, names[e.kind], e.place);
         if (e.kind > BACK) printf(" %" PRIu32, e.condition);
-        if (e.kind == WAIT || e.kind == BROADCAST || e.kind == ASKED) printf(" %" PRIu64, e.number);
+        if (has_number(e.kind)) printf(" %" PRIu64, e.number);
         if (e.kind == ASKED) printf(" %" PRIu64, e.first);
         printf(" %" PRIu64 "\n", e.data);
     }

@@ -133,13 +133,13 @@ static void end_step(uint64_t code, void *handle, int how) {
     w->owner = how == IS_ENTRY ? me : X_NOBODY;
     w->door = *v;
 }
-#define WRAP(name, how, parameters, arguments, condition, priority) \
+#define WRAP(name, how, parameters, arguments, condition, number) \
     uint64_t __real_zaulinte_door_##name parameters; \
     uint64_t __wrap_zaulinte_door_##name parameters { \
         if (me == X_NOBODY) return __real_zaulinte_door_##name arguments; \
         begin_step(#name, place); \
         uint64_t code = __real_zaulinte_door_##name arguments; \
-        if (code <= X_NOBODY) note_act(#name, x_place_of(place), condition, priority); \
+        if (code <= X_NOBODY) note_act(#name, x_place_of(place), condition, number); \
         end_step(code, place, how); \
         return code; \
     }
@@ -149,6 +149,7 @@ WRAP(try_return, IS_ENTRY, (void *place), (place), NONE, NONE)
 WRAP(leave, IS_EXIT, (void *place), (place), NONE, NONE)
 WRAP(wait, IS_EXIT, (void *place, uint64_t c, uint64_t priority), (place, c, priority), c, priority)
 WRAP(signal, IS_SIGNAL, (void *place, uint64_t c), (place, c), c, NONE)
+WRAP(signal_to, IS_SIGNAL, (void *place, uint64_t c, uint64_t waiter), (place, c, waiter), c, waiter)
 WRAP(signal_leave, IS_EXIT, (void *place, uint64_t c, uint64_t *resumed), (place, c, resumed), c, NONE)
 WRAP(give_back, IS_PLAIN, (void *place), (place), NONE, NONE)
 WRAP(notify, IS_PLAIN, (void *place, uint64_t c), (place, c), c, NONE)

@@ -56,7 +56,8 @@ static void end_schedule(void) {
     if (w->failed) printf("\t%s\n", w->failed);
     FILE *to = script ? fopen(script, "w") : NULL;
     if (script && (!to || fputs(x_script(), to) < 0 || fclose(to))) die("can't write the script");
-    if (to) printf("\t./zaulinte play opens these acts on the monitor: %s\n", script);
+    if (to && *x_script()) printf("\t./zaulinte play opens these acts on the monitor: %s\n", script);
+    else if (to) printf("\ta script has no line for the signal to a place that isn't the first waiter\n");
 }
 /* How the breadth-first search from state 0 reached each state: by which edge (plus 1), from which state. */
 static uint32_t *by, *from, *queue, queued;

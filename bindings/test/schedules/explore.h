@@ -42,7 +42,8 @@ void x_condition_wait(void *condition, void *lock);
 void x_condition_signal(void *condition);
 /* The monitor is gone: whoever touches this memory afterwards is at fault. */
 void x_gone(void *from, size_t bytes);
-/* Keeps the acts on the monitor, and returns them as a script of ./zaulinte. Only while the monitor is made. */
+/* Keeps the acts on the monitor, only while the monitor is made; and returns them as a script of ./zaulinte, or "" if a
+ * script has no line for one of them. */
 void x_keep_script(void);
 const char *x_script(void);
 /* The place that is inside by the steps of the door, or X_NOBODY. */

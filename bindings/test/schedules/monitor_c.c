@@ -6,6 +6,7 @@
 static struct shared {
     zaulinte_monitor *m;
     uint32_t *items, *said, *claims, *lent;
+    uint32_t *waits, *chosen; /* of each place 1 + the condition on which it waits, or was notified; 1 + a place */
     zaulinte_group *group;
 } s;
 static uint32_t places, groups;
@@ -30,6 +31,7 @@ static void make_groups(const char *sizes) {
 void x_make(const struct x_program *p) {
     s.items = x_room(sizeof(uint32_t), 4), s.said = x_room(sizeof(uint32_t), 4);
     s.claims = x_room(X_PLACES * sizeof(uint32_t), 8);
+    s.waits = x_room(X_PLACES * sizeof(uint32_t), 8), s.chosen = x_room(sizeof(uint32_t), 4);
     places = p->places;
     s.m = x_room(size_of_monitor(), 64);
     if (zaulinte_make(s.m, p->places, p->hoare + p->mesa, p->mesa)) __builtin_trap();
@@ -75,6 +77,7 @@ const char *x_name_of(void *at) {
 static const char *compare_recording(void) {
     static char path[64], is[4096];
     const char *owed = x_script();
+    if (!*owed) return NULL; /* the recording began anew */
     if (!path[0]) snprintf(path, sizeof path, "/dev/shm/schedules_%d", (int)getpid());
     if (!zaulinte_save(s.m, path)) return "the recording isn't saved";
     FILE *from = fopen(path, "r");
@@ -135,8 +138,12 @@ static bool leaves(uint32_t place, char letter, uint32_t condition) {
 }
 static bool waits(uint32_t place, char letter, uint32_t condition) {
     while (letter == 'w' || !*s.items) {
+        s.waits[place] = 1 + condition;
         CHECK(zaulinte_wait(s.m, place, condition, 0), 0);
+        s.waits[place] = 0;
         x_touch(place);
+        if (*s.chosen && *s.chosen != 1 + place) x_fail("another place resumes than the chosen one");
+        *s.chosen = 0;
         if (letter != '*') break;
     }
     if (letter == '?' && !*s.items) x_fail("a place resumes without an item");
@@ -146,6 +153,14 @@ static bool signals(uint32_t place, uint32_t condition) {
     bool resumed, waits = somebody(place, condition);
     CHECK(zaulinte_signal(s.m, place, condition, &resumed), 0);
     if (resumed != waits) x_fail("signal tells the wrong number");
+    return true;
+}
+static bool signals_to(uint32_t place, uint32_t condition, uint32_t waiter) {
+    bool resumed, waits = waiter < places && s.waits[waiter] == 1 + condition;
+    *s.chosen = waits ? 1 + waiter : 0;
+    CHECK(zaulinte_signal_to(s.m, place, condition, waiter, &resumed), 0);
+    if (resumed != waits) x_fail("signal_to tells the wrong number");
+    if (*s.chosen) x_fail("the chosen place hasn't resumed");
     return true;
 }
 static bool notifies(uint32_t place, char letter, uint32_t condition) {
@@ -207,6 +222,7 @@ void x_run(uint32_t thread, uint32_t place, const char *script) {
         else if (strchr("lpP", *c)) is_inside = leaves(place, *c, condition);
         else if (strchr("?*w", *c)) is_inside = waits(place, *c, condition);
         else if (*c == 's') is_inside = signals(place, condition);
+        else if (*c == 'S') is_inside = signals_to(place, condition, (uint32_t)(c[2] - '0'));
         else if (strchr("nb", *c)) is_inside = notifies(place, *c, condition);
         else if (!acts(*c)) x_fail("a letter that isn't known");
         if (is_inside) x_touch(place);

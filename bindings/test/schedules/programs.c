@@ -2,6 +2,7 @@
  *   e enter; t try to enter, and end if the monitor isn't free; l leave
  *   E enter by a place that threads compete for, and end if it is another thread's: then all its acts are refused too
  *   sC signal condition C; pC signal it and leave; PC the same, without `resumed`; nC notify; bC broadcast
+ *   SCK signal condition C to the place K
  *   ?C wait on condition C if there is no item; *C wait while there is none; wC wait
  *   + one item more; - one less
  *   ! say that it is inside; @ wait until a thread said so; f free the monitor, again until that isn't refused
@@ -34,6 +35,15 @@ const struct x_program x_programs[] = {
     {"free_waits", {"0:e ! ?0 - l", "1:@ e + s0 l f"}, 2, 1, 0},
     {"signal4", {"0:e + s0 l", "1:e + p0", "2:e ?0 - l", "3:e ?0 - l"}, 4, 1, 0},
     {"chain4", {"0:e + s0 l", "1:e ?0 s0 l", "2:e ?0 s0 l", "3:e ?0 s0 l"}, 4, 1, 0},
+    {"to2", {"0:e + S01 l", "1:e ?0 - l"}, 2, 1, 0},
+    {"to2_nobody", {"0:e S01 S00 S09 + S11 l", "1:e ?1 - l"}, 2, 2, 0},
+    {"to2_limit", {"0:@ e + S01 - l", "1:e ! w0 l"}, 2, 1, 0},
+    {"to3", {"0:e + S02 + s0 l", "1:e ?0 - l", "2:e ?0 - l"}, 3, 1, 0},
+    {"to3_two", {"0:e + S02 l", "1:e + S02 + s0 l", "2:e ?0 - l"}, 3, 1, 0},
+    {"to3_limit", {"0:@ e + S01 s0 l", "1:e ! w0 l", "2:e ?0 - l"}, 3, 1, 0},
+    {"to3_chain", {"0:e + S01 l", "1:e ?0 S02 l", "2:e ?0 S01 p0"}, 3, 1, 0},
+    {"to3_both", {"0:e + n1 S02 l", "1:e *1 S02 l", "2:e ?0 n1 l"}, 3, 1, 1},
+    {"to4", {"0:e + S02 + s0 + s0 l", "1:e ?0 - l", "2:e ?0 - l", "3:e ?0 - l"}, 4, 1, 0},
     {"lend2", {"-:g0 e l r", "-:g0 e l r"}, 1, 1, 0, "1"},
     {"lend3", {"-:g0 e l r", "-:g0 e l r", "-:g0 e l r"}, 1, 1, 0, "1"},
     {"lend3_again", {"-:g0 r g0 r", "-:g0 r g0 r", "-:g0 r"}, 1, 1, 0, "1"},

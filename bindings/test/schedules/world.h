@@ -110,7 +110,7 @@ void make_tables(void);
 void search(void);
 /* script.c */
 void forget_script(void), begin_script(void);
-void note_act(const char *step, uint32_t place, uint64_t condition, uint64_t priority);
+void note_act(const char *step, uint32_t place, uint64_t condition, uint64_t number);
 /* cycles.c */
 uint32_t fair_cycles(uint32_t *in);
 /* fine.c */

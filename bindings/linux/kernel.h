@@ -15,11 +15,11 @@ static inline void spin(uint32_t times) {
     while (times--) __builtin_ia32_pause();
 }
 int64_t nanoseconds(void);
-/* Makes a timer's handler, in a hard interrupt, call this function each 100 microseconds; with a null pointer it calls
- * none. On return no function that was set earlier is running. */
+/* Calls this function each 100 microseconds, in the context of the program; with a null pointer it calls none. On return
+ * no function that was set earlier is running. */
 void tick_by(void (*handler)(void));
-uintptr_t caller(void);  /* the calling thread, or the handler on this core */
-void *this_core(void);   /* the number that a handler has on this core */
+uintptr_t caller(void); /* the number that the port has of the caller */
+void *this_core(void);  /* the number that it owes to the handler of a tick */
 
 void say(const char *form, ...) __attribute__((format(printf, 1, 2)));
 void note(const char *form, ...) __attribute__((format(printf, 1, 2))); /* to the log */

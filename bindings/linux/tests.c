@@ -149,7 +149,6 @@ unsigned sleep(unsigned seconds) {
 }
 int64_t nanoseconds(void) { return ktime_get_ns(); }
 uintptr_t caller(void) { return port_thread(); }
-void *this_core(void) { return (void *)(4ul * raw_smp_processor_id() + 2); }
 
 /* Memory. */
 void *malloc(size_t bytes) { return kvmalloc(bytes, GFP_KERNEL); }
@@ -158,22 +157,52 @@ void free(void *at) { kvfree(at); }
 unsigned long long strtoull(const char *text, char **end, int base) { return simple_strtoull(text, end, base); }
 unsigned long strtoul(const char *text, char **end, int base) { return simple_strtoul(text, end, base); }
 
-/* The timer, whose handler runs in a hard interrupt, on a kernel with PREEMPT_RT too. */
-enum { TICK_NS = 100000 };
-static struct hrtimer timer;
+/* The context in which the handler of handlers.c is called: in a hard interrupt, on a kernel with PREEMPT_RT too; in a
+ * softirq; or by a thread that holds a spinlock, with interrupts off. */
+static enum { HARD, SOFT, LOCKED } context;
+enum { TICK_US = 100 };
 static void (*by_tick)(void);
-static enum hrtimer_restart ticks(struct hrtimer *t) {
+static struct hrtimer timer;
+static struct task_struct *locker;
+static enum hrtimer_restart timer_ticks(struct hrtimer *t) {
     by_tick();
-    hrtimer_forward_now(t, ns_to_ktime(TICK_NS));
+    hrtimer_forward_now(t, ns_to_ktime(TICK_US * NSEC_PER_USEC));
     return HRTIMER_RESTART;
 }
+static int locker_ticks(void *unused) {
+    static DEFINE_SPINLOCK(lock);
+    while (!kthread_should_stop()) {
+        unsigned long flags;
+        spin_lock_irqsave(&lock, flags);
+        by_tick();
+        spin_unlock_irqrestore(&lock, flags);
+        fsleep(TICK_US);
+    }
+    return 0;
+}
+static void end_ticks(void) {
+    if (locker) kthread_stop(locker);
+    else hrtimer_cancel(&timer);
+    locker = NULL;
+}
+static void start_ticks(void) {
+    enum hrtimer_mode mode = context == HARD ? HRTIMER_MODE_REL_HARD : HRTIMER_MODE_REL_SOFT;
+    if (context == LOCKED) {
+        locker = kthread_run(locker_ticks, NULL, "zaulinte_locker");
+        return;
+    }
+    hrtimer_init(&timer, CLOCK_MONOTONIC, mode);
+    timer.function = timer_ticks;
+    hrtimer_start(&timer, ns_to_ktime(TICK_US * NSEC_PER_USEC), mode);
+}
 void tick_by(void (*handler)(void)) {
-    if (by_tick) hrtimer_cancel(&timer);
+    if (by_tick) end_ticks();
     by_tick = handler;
-    if (!handler) return;
-    hrtimer_init(&timer, CLOCK_MONOTONIC, HRTIMER_MODE_REL_HARD);
-    timer.function = ticks;
-    hrtimer_start(&timer, ns_to_ktime(TICK_NS), HRTIMER_MODE_REL_HARD);
+    if (handler) start_ticks();
+}
+void *this_core(void) {
+    if (context == LOCKED) return current;
+    return (void *)(4ul * raw_smp_processor_id() + (context == HARD ? 2 : 1));
 }
 
 /* The programs. */
@@ -182,10 +211,14 @@ int single_resource_main(void);
 int alarm_clock_main(void);
 int disk_head_main(void);
 int stress_main(int words, char **word);
-static int handlers_main(void) {
+static int in_context(int is) {
+    context = is;
     run_handlers();
     return 0;
 }
+static int handlers(void) { return in_context(HARD); }
+static int handlers_soft(void) { return in_context(SOFT); }
+static int handlers_locked(void) { return in_context(LOCKED); }
 static int stress(void) { /* its log goes to the judge */
     char *words[] = {"stress", calls, seed};
     printf_to = &log;
@@ -197,7 +230,8 @@ static const struct program {
 } programs[] = {
     {"bounded_buffer", bounded_buffer_main}, {"single_resource", single_resource_main},
     {"alarm_clock", alarm_clock_main},       {"disk_head", disk_head_main},
-    {"stress", stress},                      {"handlers", handlers_main},
+    {"handlers", handlers},                  {"handlers_soft", handlers_soft},
+    {"handlers_locked", handlers_locked},    {"stress", stress},
 };
 static thread *main_thread;
 static struct dentry *folder;

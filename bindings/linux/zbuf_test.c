@@ -207,18 +207,22 @@ static void polled(void) {
     TEST(polls(POLLIN | POLLOUT, 0) == POLLOUT);
     printf("poll reports both kinds, and returns when another process writes or reads\n");
 }
+static pid_t start_poller(short events) { /* its status is what poll reports within 300 ms */
+    pid_t id = fork();
+    if (!id) _exit(polls(events, 300));
+    until_state(id, 'S');
+    return id;
+}
 /* A record that a waiting reader takes is never reported, nor room that a waiting writer takes. */
 static void polled_beside_waiters(void) {
     pid_t ids[1];
     start_waiters(ids, 1, does_read);
-    pid_t poller = fork();
-    if (!poller) _exit(polls(POLLIN, 300));
+    pid_t poller = start_poller(POLLIN);
     write_record(0, 1);
     ends(ids[0], 0), ends(poller, 0);
     fill();
     start_waiters(ids, 1, does_write);
-    poller = fork();
-    if (!poller) _exit(polls(POLLOUT, 300));
+    poller = start_poller(POLLOUT);
     takes();
     ends(ids[0], 0), ends(poller, 0);
     printf("poll reports no record and no room that another process has waited for\n");

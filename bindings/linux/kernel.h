@@ -15,8 +15,8 @@ static inline void spin(uint32_t times) {
     while (times--) __builtin_ia32_pause();
 }
 int64_t nanoseconds(void);
-/* Calls this function each 100 microseconds, in the context of the program; with a null pointer it calls none. On return
- * no function that was set earlier is running. */
+/* Calls this function each 100 microseconds, in the context of the program; with a null pointer it calls none. On
+ * return no function that was set earlier is running. */
 void tick_by(void (*handler)(void));
 uintptr_t caller(void); /* the number that the port has of the caller */
 void *this_core(void);  /* the number that it owes to the handler of a tick */

@@ -2,7 +2,7 @@
  *
  * A bell has no fields: threads sleep in the kernel's table of wait queues, by the address of the bell's word. A thread
  * queues itself before it tests the word, and a thread that wakes others changes the word before it reads the queue. So
- * one of the two sees what the other did. `exclusive`: a wake-up is for one thread.
+ * one of the two sees what the other did. EXCLUSIVE: a wake-up is for one thread.
  *
  * A thread that has queued itself, finds the word changed, and so doesn't sleep, may use up a wake-up. To the monitor
  * it is a thread that was woken. */
@@ -42,8 +42,9 @@ static inline uintptr_t linux_thread(void) {
 static inline void port_make(zaulinte_bell *b) { (void)b; }
 static inline void port_free(zaulinte_bell *b) { (void)b; }
 static inline void port_sleep_while(zaulinte_bell *b, uint32_t is) {
+    enum { EXCLUSIVE = 1 };
     might_sleep();
-    ___wait_var_event(&b->word, atomic_load(&b->word) != is, ZAULINTE_TASK_STATE, /* exclusive */ 1, 0, schedule());
+    ___wait_var_event(&b->word, atomic_load(&b->word) != is, ZAULINTE_TASK_STATE, EXCLUSIVE, 0, schedule());
 }
 static inline void port_wake_one(zaulinte_bell *b) {
     smp_mb(); /* wake_up_var reads first, without a lock, if the queue is empty */

@@ -180,6 +180,40 @@ static void stopped(void) {
     has_got(0, 1, 2);
     printf("a stopped reader was no longer in the way\n");
 }
+/* A frozen reader lets go of its wait too: so processes can be frozen, as before the machine is suspended. */
+static void put(const char *path, const char *text) {
+    int file = open(path, O_WRONLY);
+    TEST(file >= 0 && write(file, text, strlen(text)) == (ssize_t)strlen(text));
+    close(file);
+}
+static void until_frozen(const char *path) {
+    char text[7] = "";
+    for (long until = now() + LONG; memcmp(text, "FROZEN\n", 7) && now() < until; pause_ms(2)) {
+        int file = open(path, O_RDONLY);
+        TEST(read(file, text, sizeof text) > 0);
+        close(file);
+    }
+    TEST(!memcmp(text, "FROZEN\n", 7));
+}
+static void frozen(void) {
+    pid_t ids[2];
+    char text[16];
+    start_waiters(ids, 2, does_read);
+    snprintf(text, sizeof text, "%d", (int)ids[0]);
+    TEST(mkdir("/freezer/reader", 0700) == 0);
+    put("/freezer/reader/tasks", text);
+    put("/freezer/reader/freezer.state", "FROZEN");
+    until_frozen("/freezer/reader/freezer.state");
+    write_record(0, 1);
+    ends(ids[1], 0);
+    has_got(1, 0, 1);
+    put("/freezer/reader/freezer.state", "THAWED");
+    until_waits(ids[0]);
+    write_record(0, 2);
+    ends(ids[0], 0);
+    has_got(0, 1, 2);
+    printf("a frozen reader was no longer in the way\n");
+}
 
 /* poll and O_NONBLOCK */
 static short polls(short events, int ms) {
@@ -291,11 +325,12 @@ static void few_places(void) {
 
 static const struct { const char *name; void (*run)(void); } tests[] = {
     {"order", order}, {"killed_readers", killed_readers}, {"killed_first", killed_first},
-    {"killed_writers", killed_writers}, {"interrupted", interrupted}, {"stopped", stopped}, {"polled", polled},
-    {"polled_beside_waiters", polled_beside_waiters}, {"nonblocking", nonblocking}, {"traffic", traffic},
-    {"few_places", few_places},
+    {"killed_writers", killed_writers}, {"interrupted", interrupted}, {"stopped", stopped}, {"frozen", frozen},
+    {"polled", polled}, {"polled_beside_waiters", polled_beside_waiters}, {"nonblocking", nonblocking},
+    {"traffic", traffic}, {"few_places", few_places},
 };
 int main(int words, char **word) {
+    alarm(60); /* if a process waits for ever */
     setpgid(0, 0);
     shared = mmap(NULL, sizeof *shared, PROT_READ | PROT_WRITE, MAP_SHARED | MAP_ANONYMOUS, -1, 0);
     device = open("/dev/zbuf", O_RDWR);

@@ -1,0 +1,1 @@
+#include <linux/types.h> /* bool, true and false */

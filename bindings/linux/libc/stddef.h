@@ -1,0 +1,2 @@
+#include <linux/stddef.h> /* NULL and offsetof */
+#include <linux/types.h>  /* size_t */

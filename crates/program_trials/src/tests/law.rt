@@ -11,8 +11,7 @@ ghost use Rattle.hoare_law.specs.Priorities.{in_order};
 ghost use Rattle.hoare_law.specs.Turns.{turn, urgent};
 ghost use Rattle.hoare_law.specs.Legal.{Allowed, IsLegal};
 ghost use Rattle.hoare_law.specs.Sizes.{sizes_of};
-ghost use Rattle.hoare_law.specs.Overtaking.{signals_to, with_events, releases, returned, signals, resumed_called};
-ghost use Rattle.hoare_law.specs.Overtaking.{taken_from};
+ghost use Rattle.hoare_law.specs.Overtaking.{with_events, releases, returned, signals, resumed_called, taken_from};
 ghost use Rattle.hoare_law.specs.Overtaking.{waits_below, waiters_up_to, visits, notifications, waiting_anywhere};
 
 use hoare_law::laws;
@@ -49,16 +48,16 @@ fn entering_places_come_last<S>()
 }
 
 // What the laws of overtaking say if no other process goes first: the monitor returns to a signaller at the first
-// release, and the longest waiter of priority 0 is the next to be taken, whatever processes come, if no waiter there is
-// resumed by a signal to it.
+// release, and the longest waiter of priority 0 is the next to be taken, whatever processes come and whichever other
+// waiters are resumed by signals to them. (Of those `its_turn` says nothing: the second clause is proved by the lemma
+// `passed` behind that law, and by `plain`.)
 fn first_goes_first<S>()
     ensures signaller { (h : History S) (later : List (Event S)) (k c w : ℕ) (s : S)
         → IsLegal (with_events h (Signal k c w s ∷ later)) → own k later ≡ [] → urgent h.events ≡ []
         → releases later ≡ 1 → turn (h.events ++ Signal k c w s ∷ later) ≡ Return k }
     ensures waiter { (c : ℕ) (h : History S) (later behind : List (Event S)) (x : Event S)
         → IsLegal (with_events h later) → in_order priority_of (waiting c h.events) ≡ x ∷ behind
-        → priority_of x ≡ 0 → is_untouched c x later ≡ true → signals_to c later ≡ 0
-        → chosen c (h.events ++ later) ≡ Some x }
+        → priority_of x ≡ 0 → is_untouched c x later ≡ true → chosen c (h.events ++ later) ≡ Some x }
 {
     laws::releases_until_return::<S>();
     laws::waiters_taken_in_turn::<S>();

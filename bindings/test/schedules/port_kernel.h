@@ -54,5 +54,7 @@ void switch_stacks(void **from, void *to) {
 }
 void thread_begins(void) {}
 #pragma clang section bss = ""
+#undef port_relax
+#undef port_thread
 #include "kernel_port.h"
 #endif

@@ -39,11 +39,8 @@ void x_run(uint32_t k, uint32_t place, const char *c) {
     uint32_t n = 0;
     (void)place;
     for (; *c; c++) {
-        if (*c == ' ') continue;
-        if (*c == 'F') {
-            atomic_thread_fence(memory_order_seq_cst);
-            continue;
-        }
+        if (*c == 'F') atomic_thread_fence(memory_order_seq_cst);
+        if (*c == 'F' || *c == ' ') continue;
         char c0 = *c;
         bool writes = c0 == 'W' || c0 == 'w';
         uint32_t value = writes && c[1] == '2' ? 2 : 1;

@@ -54,7 +54,6 @@ void switch_stacks(void **from, void *to) {
 }
 void thread_begins(void) {}
 #pragma clang section bss = ""
-#undef port_relax
-#undef port_thread
+#pragma clang diagnostic ignored "-Wmacro-redefined"
 #include "kernel_port.h"
 #endif

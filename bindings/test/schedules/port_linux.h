@@ -14,8 +14,6 @@ struct wait_queue { _Alignas(8) uint8_t lock, many; _Atomic uint8_t is_active; s
 static _Alignas(8) _Atomic uint32_t state_of[X_THREADS];
 static struct wait_queue table[QUEUES]; /* all words share one, or the queue is chosen by the word's address */
 #pragma clang section bss = ""
-#undef port_relax
-#undef port_thread
 #define current (&state_of[x_me()])
 #define in_task() true
 #define in_hardirq() false
@@ -93,8 +91,6 @@ int zaulinte_polls;
 #define __atomic_fetch_add __c11_atomic_fetch_add
 #define __atomic_fetch_sub __c11_atomic_fetch_sub
 #define __atomic_fetch_or __c11_atomic_fetch_or
-#undef atomic_fetch_add
-#undef atomic_fetch_sub
-#undef atomic_fetch_or
+#pragma clang diagnostic ignored "-Wmacro-redefined" /* the port has atomic_fetch_* for gcc */
 #endif
 #include "zaulinte_port_linux.h"

@@ -80,7 +80,11 @@ void __tsan_init(void) {}
 void __tsan_acquire(void *at) { (void)at; }
 void __tsan_release(void *at) { (void)at; }
 /* In a strong memory a fence does nothing. */
-void __tsan_atomic_thread_fence(int order) { (void)order, weak ? die("a fence") : (void)0; }
+void __tsan_atomic_thread_fence(int order) {
+    if (!weak) return;
+    if (order != SEQ_CST) die("a fence that isn't full");
+    stop((struct op){.kind = FENCE});
+}
 
 /* Sleeping and waking. */
 void x_sleep_while(void *word, uint32_t is) {
@@ -186,6 +190,7 @@ static void exchange_views(struct thread *t) {
     if (op->kind == LOCK || op->kind == RELOCK) join(&t->view, told_at(op->lock, 1));
     if (op->kind == UNLOCK || op->kind == C_WAIT) join(told_at(op->lock, 1), &t->view);
     if (op->kind == WAKE) join(told_at(op->at, 4), &t->view);
+    if (op->kind == FENCE) join(&t->view, &w->fenced), w->fenced = t->view;
 }
 /* Changes the world as an act does that is no access, and returns true if the thread goes on. */
 static bool act(struct thread *t, uint32_t choice) {

@@ -22,7 +22,7 @@ static const char *replayed, *script, *groups;
 static const char *const said[] = {
     "starts", "loads", "stores", "swaps", "adds", "sets bits", "compares and swaps", "tests and sleeps on",
     "makes a step", "sleeps on", "wakes one at", "locks", "unlocks", "waits and unlocks", "waits", "locks again",
-    "signals", "waits for another", "accesses", "is done"};
+    "signals", "waits for another", "accesses", "makes a full fence", "is done"};
 
 static const char *name_of(const struct op *op) {
     static char text[64];

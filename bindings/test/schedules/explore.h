@@ -32,7 +32,9 @@ _Noreturn void x_fail(const char *what);
 /* Sets a word of the world, and blocks until it has a value: an order that both threads see. */
 void x_tell(uint32_t *word, uint32_t is);
 void x_await(const uint32_t *word, uint32_t is);
-/* What a port owes: sleeps while *word is `is`; wakes one. `at` is any address that names the place of sleep. */
+/* What a port owes: sleeps while *word is `is`; wakes one. */
+#define port_relax() ((void)0)
+#define port_thread() ((uintptr_t)x_me() + 1)
 void x_sleep_while(void *word, uint32_t is);
 void x_wake_one(void *word);
 /* A mutex and a condition variable at an address. */

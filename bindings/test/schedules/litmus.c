@@ -1,6 +1,6 @@
 /* Tests the weak memory: small programs whose weak outcome C11 allows (_seen), so the explorer has to find it, or
  * forbids (_never). A letter is an access: W, w write 1 to X, Y; R, r read X, Y; S swaps X for 1. The next letter is
- * its order (s sequentially consistent, a acquire, r release, x relaxed). W2, w2 write 2. */
+ * its order (s sequentially consistent, a acquire, r release, x relaxed). W2, w2 write 2. F is a full fence. */
 #include "explore.h"
 #include <stdatomic.h>
 #include <string.h>
@@ -12,6 +12,8 @@ const struct x_program x_programs[] = {
     {"sb_acqrel_seen", {"0:Wr ra", "0:wr Ra"}, 1, 1, 0, NULL},
     {"sb_mixed_seen", {"0:Ws ra", "0:ws Rs"}, 1, 1, 0, NULL},
     {"sb_sc_never", {"0:Ws rs", "0:ws Rs"}, 1, 1, 0, NULL},
+    {"sb_fence_seen", {"0:WxFrx", "0:wx Rx"}, 1, 1, 0, NULL},
+    {"sb_fences_never", {"0:WxFrx", "0:wxFRx"}, 1, 1, 0, NULL},
     {"mp_relaxed_seen", {"0:Wx wr", "0:rx Rx"}, 1, 1, 0, NULL},
     {"mp_relaxed2_seen", {"0:Wx wx", "0:ra Rx"}, 1, 1, 0, NULL},
     {"mp_acqrel_never", {"0:Wx wr", "0:ra Rx"}, 1, 1, 0, NULL},
@@ -37,7 +39,8 @@ void x_run(uint32_t k, uint32_t place, const char *c) {
     uint32_t n = 0;
     (void)place;
     for (; *c; c++) {
-        if (*c == ' ') continue;
+        if (*c == 'F') atomic_thread_fence(memory_order_seq_cst);
+        if (*c == 'F' || *c == ' ') continue;
         char c0 = *c;
         bool writes = c0 == 'W' || c0 == 'w';
         uint32_t value = writes && c[1] == '2' ? 2 : 1;

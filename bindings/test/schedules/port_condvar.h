@@ -7,9 +7,6 @@ typedef struct { uint8_t unused; } explored_cond;
 #define pthread_cond_t explored_cond
 #else
 #include "explore.h"
-#define port_relax() ((void)0)
-static inline uintptr_t port_thread(void) { return x_me() + 1; }
-#define port_thread port_thread
 #define pthread_mutex_init(m, a) ((void)(m))
 #define pthread_cond_init(c, a) ((void)(c))
 #define pthread_mutex_destroy(m) ((void)(m))

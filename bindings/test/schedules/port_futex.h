@@ -4,9 +4,6 @@
 #include <linux/futex.h>
 #include <stdarg.h>
 #include <sys/syscall.h>
-#define port_relax() ((void)0)
-static inline uintptr_t port_thread(void) { return x_me() + 1; }
-#define port_thread port_thread
 static inline long explored_syscall(long number, ...) {
     va_list rest;
     va_start(rest, number);

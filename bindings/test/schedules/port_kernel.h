@@ -54,5 +54,6 @@ void switch_stacks(void **from, void *to) {
 }
 void thread_begins(void) {}
 #pragma clang section bss = ""
+#pragma clang diagnostic ignored "-Wmacro-redefined"
 #include "kernel_port.h"
 #endif

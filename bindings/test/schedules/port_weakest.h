@@ -3,9 +3,6 @@
 #define ZAULINTE_PORT_NAME weakest
 #else
 #include "explore.h"
-#define port_relax() ((void)0)
-static inline uintptr_t port_thread(void) { return x_me() + 1; }
-#define port_thread port_thread
 static inline void port_make(zaulinte_bell *b) { (void)b; }
 static inline void port_free(zaulinte_bell *b) { (void)b; }
 static inline void port_sleep_while(zaulinte_bell *b, uint32_t is) { x_sleep_while((void *)&b->word, is); }

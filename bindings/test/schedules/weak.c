@@ -54,6 +54,7 @@ static void change_views(uint32_t i, change *to, uint8_t by) {
     for (uint32_t j = 0; j < words; j++) change_word(&w->word[j], w->messages[j], i, to, by);
     w->door.of[i] = to(w->door.of[i], by);
     w->told.of[i] = to(w->told.of[i], by);
+    w->fenced.of[i] = to(w->fenced.of[i], by);
 }
 
 static bool acquires(uint8_t order) { return order != RELAXED && order != RELEASE; }

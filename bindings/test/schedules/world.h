@@ -7,7 +7,7 @@
  * of each place's handle if it knows the latest write. */
 enum { STACK = 16384, ROOM = 16384, WORDS = 26, MESSAGES = 14, DATA = WORDS, HANDLE, VIEWS = HANDLE + X_PLACES };
 enum kind { NEW, LOAD, STORE, SWAP, ADD, OR, CAS, SLEEP, STEP, SLEEPING, WAKE, LOCK, UNLOCK, C_WAIT, C_SLEEPING,
-            RELOCK, C_SIGNAL, AWAIT, TOUCH, DONE };
+            RELOCK, C_SIGNAL, AWAIT, TOUCH, FENCE, DONE };
 enum order { RELAXED, CONSUME, ACQUIRE, RELEASE, ACQ_REL, SEQ_CST };
 /* The choices of an act are 0, 1 and so on: which thread it wakes, which message it reads. EARLY: it returns early. */
 enum { EARLY = 100 };
@@ -43,6 +43,7 @@ struct world {
     void *gone;
     size_t gone_bytes, used;
     struct view door, told; /* what the word of the door knows, and the thread that said that it is inside */
+    struct view fenced;     /* what the threads knew that made full fences */
     struct thread thread[X_THREADS];
     uint8_t messages[WORDS], sequential[WORDS]; /* the latest that a sequentially consistent access wrote or read */
     _Alignas(64) char room[ROOM];

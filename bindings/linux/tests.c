@@ -79,10 +79,10 @@ void note(const char *form, ...) {
     PRINT(&log, form, bytes);
 }
 
-/* The end of the program: its main thread has returned, or a thread has failed. */
+/* The end of the program: its main thread has returned, or before that a thread or the handler has failed. */
 static DECLARE_COMPLETION(has_ended);
 static void ends(int with) {
-    status = with;
+    if (status < 0) status = with;
     complete(&has_ended);
 }
 static void stop(int with) { /* by the thread, or the handler, that has failed */
@@ -162,6 +162,7 @@ static void (*by_tick)(void);
 static struct hrtimer timer;
 static struct task_struct *locker;
 static enum hrtimer_restart timer_ticks(struct hrtimer *t) {
+    if (status >= 0) return HRTIMER_NORESTART;
     by_tick();
     hrtimer_forward_now(t, ns_to_ktime(TICK_US * NSEC_PER_USEC));
     return HRTIMER_RESTART;

@@ -330,7 +330,7 @@ static const struct { const char *name; void (*run)(void); } tests[] = {
     {"traffic", traffic}, {"few_places", few_places},
 };
 int main(int words, char **word) {
-    alarm(60); /* if a process waits for ever */
+    alarm(300); /* if a process waits for ever */
     setpgid(0, 0);
     shared = mmap(NULL, sizeof *shared, PROT_READ | PROT_WRITE, MAP_SHARED | MAP_ANONYMOUS, -1, 0);
     device = open("/dev/zbuf", O_RDWR);

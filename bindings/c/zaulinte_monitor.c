@@ -8,7 +8,7 @@
 const char ZAULINTE_BUILD = 0;
 /* Of a function that isn't inlined, so that a call that doesn't block stays short. */
 #ifdef __GNUC__
-#define APART __attribute__((noinline)) static
+#define APART __attribute__((__noinline__)) static
 #else
 #define APART static
 #endif

@@ -1,19 +1,22 @@
 /* Calls from an interrupt handler. At each tick the timer's handler tries to enter a monitor, in which threads wait on
- * one of Hoare's conditions and on a Mesa condition. Inside it makes each call that never blocks. Each place writes its
- * calls to a log, which ../test/judge.c judges. The handler also makes calls that are refused: by a thread's place, for
+ * one of Hoare's conditions and on a Mesa condition. Inside it makes each call that never blocks. It borrows its place
+ * from a group of one, and so does a thread, which sleeps while the handler keeps the place. Each place writes its calls
+ * to a log, which ../test/judge.c judges. The handler also makes calls that are refused: by a thread's place, for
  * example. */
-#include "kernel.h"
+#include "programs.h"
 
 enum { WAITERS = 6, HANDLER = WAITERS, ASKER, SWEEPER, PLACES, HOARE = 0, MESA = 1, EACH = 50, MOST_SECONDS = 60 };
 static struct {
     zaulinte_monitor m;
+    zaulinte_group lent; /* HANDLER alone */
     uint64_t data; /* one more after each visit */
     uint32_t gone; /* the number of waiters that have ended */
     bool is_over;
 } hall;
-enum { LEAVES, NOTIFIES, BROADCASTS, SIGNALS, ACTS };
-static _Atomic uint32_t done[ACTS]; /* by the handler, while a thread waited */
-static uint32_t visits, shut; /* how often the monitor was free, and wasn't */
+enum { LEAVES, NOTIFIES, BROADCASTS, SIGNALS, WAYS, GIVES_BACK = WAYS, ACTS };
+static _Atomic uint32_t done[ACTS]; /* by the handler, while a thread waited, or slept for the place */
+static uint32_t visits, shut, lent_out; /* how often the monitor was free, and wasn't, and the place wasn't there */
+static bool has_place; /* the handler */
 
 static void must_be(uint64_t is, uint64_t wanted, const char *what) {
     if (is != wanted) fail("%s: %lu instead of %lu", what, is, wanted);
@@ -65,9 +68,10 @@ static void misuse(void) {
     must_be(zaulinte_signal_leave(&hall.m, HANDLER, MESA, NULL), ZAULINTE_WRONG_KIND, "signal_leave");
     must_be(zaulinte_free(&hall.m), ZAULINTE_IN_USE, "free");
     must_be(zaulinte_make(&hall.m, 1, 1, 0), ZAULINTE_IS_MADE, "make");
+    must_be(zaulinte_give_back(&hall.lent, HANDLER), ZAULINTE_NOT_OUTSIDE, "give_back inside");
+    must_be(zaulinte_give_back(&hall.lent, ASKER), ZAULINTE_NO_PLACE, "give_back of no place");
 }
-static void visit(void) { /* in the handler */
-    must_be(caller(), (uintptr_t)this_core(), "the caller in a handler");
+static void visit(void) {
     uint64_t refused = zaulinte_try_enter(&hall.m, HANDLER);
     if (refused) {
         must_be(refused, ZAULINTE_NOT_FREE, "try_enter");
@@ -75,7 +79,7 @@ static void visit(void) { /* in the handler */
         return;
     }
     came(HANDLER);
-    uint32_t way = visits++ % ACTS;
+    uint32_t way = visits++ % WAYS;
     uint64_t of_hoare = ask(HANDLER, HOARE), of_mesa = ask(HANDLER, MESA);
     misuse();
     if (way == NOTIFIES) notify(HANDLER);
@@ -83,6 +87,30 @@ static void visit(void) { /* in the handler */
     if (way == SIGNALS) signal_and_leave(HANDLER, of_hoare > 0);
     else leave(HANDLER);
     done[way] += (way == SIGNALS || way == LEAVES ? of_hoare : of_mesa) > 0;
+}
+static bool borrows(void) {
+    uint32_t place = PLACES;
+    uint64_t refused = zaulinte_try_borrow(&hall.lent, &place);
+    if (refused) must_be(refused, ZAULINTE_NOT_FREE, "try_borrow");
+    else must_be(place, HANDLER, "the place");
+    return !refused;
+}
+static void gives_back(void) {
+    bool one_sleeps = atomic_load(&hall.lent.sleepers) > 0;
+    CHECK(zaulinte_give_back(&hall.lent, HANDLER));
+    done[GIVES_BACK] += one_sleeps;
+}
+static void handle(void) { /* at one tick the handler borrows its place, at the next it visits and gives it back */
+    must_be(caller(), tick_caller(), "the caller in a handler");
+    if (!has_place) {
+        has_place = borrows();
+        lent_out += !has_place;
+        return;
+    }
+    must_be(borrows(), false, "try_borrow twice");
+    visit();
+    gives_back();
+    has_place = false;
 }
 
 /* the threads */
@@ -101,15 +129,19 @@ static void *wait_again(void *with) {
     }
     return NULL;
 }
-static void *enter_again(void *unused) { /* so that the handler finds the monitor shut now and then */
+static void *enter_again(void *by_group) { /* so that the handler finds the monitor shut, or no place, now and then */
+    uint32_t place = ASKER;
     for (bool is_over = false; !is_over;) {
-        CHECK(zaulinte_enter(&hall.m, ASKER));
-        came(ASKER);
+        if (by_group) CHECK(zaulinte_borrow(&hall.lent, &place));
+        CHECK(zaulinte_enter(&hall.m, place));
+        came(place);
         is_over = hall.is_over;
-        leave(ASKER);
+        leave(place);
+        if (by_group) CHECK(zaulinte_give_back(&hall.lent, place));
         spin(10000);
+        yield(); /* a kernel may preempt no thread that is in it */
     }
-    return unused;
+    return NULL;
 }
 static bool is_enough(void) {
     for (uint32_t way = 0; way < ACTS; way++)
@@ -134,20 +166,24 @@ static bool sweep(void) { /* resumes all; returns false once all threads have go
     return more;
 }
 void run_handlers(void) {
-    thread *by[WAITERS];
+    thread *by[WAITERS], *askers[2];
     note("sizes %u 2 1\n", PLACES);
     CHECK(zaulinte_make(&hall.m, PLACES, 2, 1));
+    CHECK(zaulinte_group_make(&hall.lent, &hall.m, HANDLER, 1));
     start_threads(by, WAITERS, wait_again);
-    thread *asker = start_thread(enter_again, NULL);
-    tick_by(visit);
+    start_threads(askers, 2, enter_again);
+    tick_by(handle);
     wait_until_enough();
     tick_by(NULL);
+    if (has_place) gives_back();
     while (sweep()) {}
     join_threads(by, WAITERS);
-    join_thread(asker);
+    join_threads(askers, 2);
     note("end\n");
+    CHECK(zaulinte_group_free(&hall.lent));
     CHECK(zaulinte_free(&hall.m));
-    say("in the timer's handler: %u visits; %u times the monitor wasn't free;\n", visits, shut);
-    say("  beside waiters leave %u, notify %u, broadcast %u, signal_leave %u\n", done[LEAVES], done[NOTIFIES],
-        done[BROADCASTS], done[SIGNALS]);
+    say("in the timer's handler: %u visits; %u times the monitor wasn't free, %u times the place;\n", visits, shut,
+        lent_out);
+    say("  beside waiters leave %u, notify %u, broadcast %u, signal_leave %u, give_back %u\n", done[LEAVES],
+        done[NOTIFIES], done[BROADCASTS], done[SIGNALS], done[GIVES_BACK]);
 }

@@ -1,7 +1,7 @@
 /* What the parts of the kernel use of each other. */
 #ifndef KERNEL_H
 #define KERNEL_H
-#include "zaulinte_monitor.h"
+#include "programs.h"
 #include <stdarg.h>
 #include <stddef.h>
 
@@ -58,9 +58,6 @@ static inline void relax(void) {
     __asm__ volatile("" ::: "memory");
 #endif
 }
-static inline void spin(uint32_t times) {
-    while (times--) relax();
-}
 /* A lock that a handler may take: interrupts are off while it is held. */
 typedef struct spin_lock {
     atomic_bool is_held;
@@ -77,39 +74,28 @@ static inline void unlock(spin_lock *l, uint64_t flags) {
 
 /* machine.c: cores and time */
 void call_core(uint32_t number); /* interrupts another core, so that it takes a ready thread */
-int64_t nanoseconds(void);
 void end_slice_interrupt(void);
 void end_tick(void);
 _Noreturn void stop(uint32_t status); /* ends QEMU, whose status is then 2 * status + 1 */
 
 /* tables.c: what the processor asks of a kernel, and the interrupts */
 extern _Atomic uint64_t ticks;
-/* Makes the timer's handler, on the first core, call this function at each tick; with a null pointer it calls none. On
- * return no function that was set earlier is running. */
-void tick_by(void (*handler)(void));
 void make_gates(void);
 void load_tables(uint32_t number);
 
 /* threads.c */
 enum { STACK = 16384, THREADS = 32 };
-typedef struct thread {
+struct thread {
     void *sp;
-    struct thread *next; /* in the one queue that it is in */
+    thread *next; /* in the one queue that it is in */
     zaulinte_bell done;  /* 0, or 1 once it has ended */
     void *(*body)(void *);
     void *with;
     _Alignas(16) unsigned char stack[STACK];
-} thread;
-thread *start_thread(void *(*body)(void *), void *with); /* by one thread at a time */
-void join_thread(thread *t);
-/* Starts so many threads, and puts them into `by`: thread k is started with k. */
-void start_threads(thread **by, uint32_t many, void *(*body)(void *));
-void join_threads(thread **by, uint32_t many);
-void yield(void);
+};
 void preempt(void); /* the last act of the handler at the end of a slice */
 void sleep_while(zaulinte_bell *b, uint32_t is);
 void wake_one(zaulinte_bell *b); /* a handler may call it too: it waits for no thread */
-uintptr_t caller(void); /* the calling thread, or the handler on this core */
 _Noreturn void run_idle(thread *mine);
 
 /* console.c */
@@ -118,17 +104,8 @@ extern uint16_t printf_to; /* SERIAL or LOG: the port to which the printf of the
 void put_text(uint16_t port, const char *text, size_t bytes);
 int print(uint16_t port, const char *form, va_list with);
 size_t format(char *to, size_t room, const char *form, va_list with);
-void say(const char *form, ...) __attribute__((format(printf, 1, 2)));
-void note(const char *form, ...) __attribute__((format(printf, 1, 2))); /* to the log */
-_Noreturn void fail(const char *form, ...) __attribute__((format(printf, 1, 2)));
-/* Tests the code of a call of the monitor. */
-#define CHECK(call) check((call), #call)
-static inline void check(uint64_t code, const char *call) {
-    if (code) fail("%s: %s", call, zaulinte_text(code));
-}
 
-/* the programs, in the order in which main.c runs them */
-void run_handlers(void);
+/* the programs that main.c runs after those of programs.h */
 void run_registers(void);
 void run_clock(void);
 void *memset(void *to, int is, size_t bytes);

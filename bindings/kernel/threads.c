@@ -47,6 +47,9 @@ static void make_ready(thread *t) {
     }
 }
 
+void spin(uint32_t times) {
+    while (times--) relax();
+}
 void yield(void) {
     uint64_t flags = lock(&all);
     if (ready.first) {
@@ -67,7 +70,8 @@ void preempt(void) {
 }
 /* The port's functions. A handler is a caller of its own, so it can't act by the place of the thread that it
  * interrupted. */
-uintptr_t caller(void) { return in_handler() ? (uintptr_t)this_core() : (uintptr_t)this_thread(); }
+uintptr_t tick_caller(void) { return (uintptr_t)this_core(); }
+uintptr_t caller(void) { return in_handler() ? tick_caller() : (uintptr_t)this_thread(); }
 /* Because of the lock the test of the word and the falling asleep are one step. */
 void sleep_while(zaulinte_bell *b, uint32_t is) {
     if (in_handler()) fail("an interrupt handler would sleep");
@@ -120,12 +124,6 @@ void join_thread(thread *t) {
     while (atomic_load(&t->done.word) == 0) sleep_while(&t->done, 0);
     unlock(&all, lock(&all));
     t->body = NULL;
-}
-void start_threads(thread **by, uint32_t many, void *(*body)(void *)) {
-    for (uint32_t k = 0; k < many; k++) by[k] = start_thread(body, (void *)(uintptr_t)k);
-}
-void join_threads(thread **by, uint32_t many) {
-    for (uint32_t k = 0; k < many; k++) join_thread(by[k]);
 }
 
 _Noreturn void run_idle(thread *mine) {

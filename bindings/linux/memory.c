@@ -16,11 +16,13 @@ atomic_long_t zaulinte_kept = ATOMIC_LONG_INIT(0);
 /* kmalloc aligns a size that is a power of two to that size, and any other to ARCH_KMALLOC_MINALIGN. */
 struct tried rattle_alloc(size_t bytes, size_t align) {
     size_t room = align <= ARCH_KMALLOC_MINALIGN ? bytes : roundup_pow_of_two(max(bytes, align));
+    zaulinte_may_sleep();
     void *at = kmalloc(room, GFP_KERNEL);
     if (at) atomic_long_inc(&zaulinte_kept);
     return (struct tried){at != NULL, at};
 }
 void rattle_dealloc(void *at) {
+    zaulinte_may_sleep();
     if (at) atomic_long_dec(&zaulinte_kept);
     kfree(at);
 }

@@ -2,7 +2,7 @@
  * program=stress` returns once it has ended. Its status is the parameter `status`. In debugfs, zaulinte/said has what it
  * printed, and zaulinte/log what the judge reads.
  *
- * Here is what the programs ask of a C library (../kernel/libc), and handlers.c of a kernel (kernel.h). If a program
+ * Here is what the programs ask of a C library (../kernel/libc), and handlers.c of a kernel (programs.h). If a program
  * fails, its other threads may sleep for ever in the code of this module, so the module stays then. */
 #include <linux/completion.h>
 #include <linux/debugfs.h>
@@ -21,7 +21,7 @@
 #include <stdlib.h>
 #include <time.h>
 #include <unistd.h>
-#include "kernel.h"
+#include "programs.h"
 #define ZAULINTE_PORT_CODE
 #include "zaulinte_port_linux.h" /* for `caller` */
 
@@ -79,10 +79,10 @@ void note(const char *form, ...) {
     PRINT(&log, form, bytes);
 }
 
-/* The end of the program: its main thread has returned, or a thread has failed. */
+/* The end of the program: its main thread has returned, or before that a thread or the handler has failed. */
 static DECLARE_COMPLETION(has_ended);
 static void ends(int with) {
-    status = with;
+    if (status < 0) status = with;
     complete(&has_ended);
 }
 static void stop(int with) { /* by the thread, or the handler, that has failed */
@@ -120,12 +120,6 @@ void join_thread(thread *t) {
     wait_for_completion_state(&t->over, TASK_IDLE);
     kfree(t);
 }
-void start_threads(thread **by, uint32_t many, void *(*body)(void *)) {
-    for (uintptr_t k = 0; k < many; k++) by[k] = start_thread(body, (void *)k);
-}
-void join_threads(thread **by, uint32_t many) {
-    for (uint32_t k = 0; k < many; k++) join_thread(by[k]);
-}
 int pthread_create(pthread_t *id, const void *attributes, void *(*body)(void *), void *with) {
     *id = start_thread(body, with);
     return 0;
@@ -147,6 +141,9 @@ unsigned sleep(unsigned seconds) {
     msleep(seconds * MSEC_PER_SEC);
     return 0;
 }
+void spin(uint32_t times) {
+    while (times--) barrier(); /* QEMU takes long for a `pause` */
+}
 int64_t nanoseconds(void) { return ktime_get_ns(); }
 uintptr_t caller(void) { return port_thread(); }
 
@@ -165,6 +162,7 @@ static void (*by_tick)(void);
 static struct hrtimer timer;
 static struct task_struct *locker;
 static enum hrtimer_restart timer_ticks(struct hrtimer *t) {
+    if (status >= 0) return HRTIMER_NORESTART;
     by_tick();
     hrtimer_forward_now(t, ns_to_ktime(TICK_US * NSEC_PER_USEC));
     return HRTIMER_RESTART;
@@ -200,9 +198,9 @@ void tick_by(void (*handler)(void)) {
     by_tick = handler;
     if (handler) start_ticks();
 }
-void *this_core(void) {
-    if (context == LOCKED) return current;
-    return (void *)(4ul * raw_smp_processor_id() + (context == HARD ? 2 : 1));
+uintptr_t tick_caller(void) {
+    if (context == LOCKED) return (uintptr_t)current;
+    return 4ul * raw_smp_processor_id() + (context == HARD ? 2 : 1);
 }
 
 /* The programs. */

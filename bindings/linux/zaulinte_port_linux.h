@@ -17,19 +17,18 @@
 #include <linux/sched.h>
 #include <linux/smp.h>
 #include <linux/wait_bit.h>
+#include "module.h"
 
 /* The state of a thread that sleeps: it isn't part of the load, and isn't reported as a hung task. Nothing but its
  * wake-up may end the sleep: with TASK_KILLABLE a killed thread would return, and sleep again, without end. */
 #ifndef ZAULINTE_TASK_STATE
 #define ZAULINTE_TASK_STATE TASK_IDLE
 #endif
-/* zaulinte_monitor.c has the attribute of this name, and calls C11's of these names: the kernel has its own. */
-#undef noinline
+/* zaulinte_monitor.c calls C11's of these names: the kernel has its own. */
 #define atomic_fetch_add(at, more) __atomic_fetch_add(at, more, __ATOMIC_SEQ_CST)
 #define atomic_fetch_sub(at, less) __atomic_fetch_sub(at, less, __ATOMIC_SEQ_CST)
 #define atomic_fetch_or(at, bits) __atomic_fetch_or(at, bits, __ATOMIC_SEQ_CST)
 
-extern int zaulinte_polls; /* a parameter of the module */
 #define ZAULINTE_POLLS zaulinte_polls
 #define port_relax() cpu_relax()
 #define port_thread() linux_thread()
@@ -43,7 +42,7 @@ static inline void port_make(zaulinte_bell *b) { (void)b; }
 static inline void port_free(zaulinte_bell *b) { (void)b; }
 static inline void port_sleep_while(zaulinte_bell *b, uint32_t is) {
     enum { EXCLUSIVE = 1 };
-    might_sleep();
+    zaulinte_may_sleep();
     ___wait_var_event(&b->word, atomic_load(&b->word) != is, ZAULINTE_TASK_STATE, EXCLUSIVE, 0, schedule());
 }
 static inline void port_wake_one(zaulinte_bell *b) {

@@ -51,12 +51,11 @@ static struct {
     uint first, count;
     uint shown; /* the count, but poll reads it too: it leaves out a record that a waiter takes next */
     struct waiter waiter[64];
-    u64 appended, removed, released, passed_on;
+    u64 appended, removed, released;
 } buffer;
 module_param_named(appended, buffer.appended, ullong, 0444);
 module_param_named(removed, buffer.removed, ullong, 0444);
 module_param_named(released, buffer.released, ullong, 0444);
-module_param_named(passed_on, buffer.passed_on, ullong, 0444);
 
 /* A refusal of the monitor is a fault of this driver. */
 #define CHECK(call) check((call), #call)
@@ -130,7 +129,6 @@ static void leave_with(u32 place, uint condition) {
 /* The last act of a call that has an error. If the condition holds, another call has resumed this one, or it hasn't
  * waited: then the next waiter is resumed instead. */
 static int leave_without(u32 place, uint condition, bool holds, int error) {
-    buffer.passed_on += holds;
     if (holds) leave_with(place, condition);
     else CHECK(zaulinte_leave(&buffer.m, place));
     return error;

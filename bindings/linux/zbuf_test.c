@@ -164,23 +164,25 @@ static void interrupted(void) {
     has_got(1, 1, 1);
     printf("a reader with a signal got EINTR, the next one the record\n");
 }
-/* A stopped reader lets go of its wait, and begins anew when it continues: it is the last then. */
-static void stopped(void) {
+/* A reader that is stopped or frozen lets go of its wait, and begins anew when it continues: it is the last then. */
+static void set_aside(void (*halt)(pid_t), void (*resume)(pid_t)) {
     pid_t ids[2];
     start_waiters(ids, 2, does_read);
-    kill(ids[0], SIGSTOP);
-    until_state(ids[0], 'T');
+    halt(ids[0]);
     write_record(0, 1);
     ends(ids[1], 0);
     has_got(1, 0, 1);
-    kill(ids[0], SIGCONT);
+    resume(ids[0]);
     until_waits(ids[0]);
     write_record(0, 2);
     ends(ids[0], 0);
     has_got(0, 1, 2);
-    printf("a stopped reader was no longer in the way\n");
+    printf("a reader was no longer in the way\n");
 }
-/* A frozen reader lets go of its wait too: so processes can be frozen, as before the machine is suspended. */
+static void stop(pid_t id) { kill(id, SIGSTOP), until_state(id, 'T'); }
+static void resume(pid_t id) { kill(id, SIGCONT); }
+static void stopped(void) { set_aside(stop, resume); }
+/* Processes are frozen before the machine is suspended, for example. */
 static void put(const char *path, const char *text) {
     int file = open(path, O_WRONLY);
     TEST(file >= 0 && write(file, text, strlen(text)) == (ssize_t)strlen(text));
@@ -195,25 +197,16 @@ static void until_frozen(const char *path) {
     }
     TEST(!memcmp(text, "FROZEN\n", 7));
 }
-static void frozen(void) {
-    pid_t ids[2];
+static void freeze(pid_t id) {
     char text[16];
-    start_waiters(ids, 2, does_read);
-    snprintf(text, sizeof text, "%d", (int)ids[0]);
+    snprintf(text, sizeof text, "%d", (int)id);
     TEST(mkdir("/freezer/reader", 0700) == 0);
     put("/freezer/reader/tasks", text);
     put("/freezer/reader/freezer.state", "FROZEN");
     until_frozen("/freezer/reader/freezer.state");
-    write_record(0, 1);
-    ends(ids[1], 0);
-    has_got(1, 0, 1);
-    put("/freezer/reader/freezer.state", "THAWED");
-    until_waits(ids[0]);
-    write_record(0, 2);
-    ends(ids[0], 0);
-    has_got(0, 1, 2);
-    printf("a frozen reader was no longer in the way\n");
 }
+static void thaw(pid_t id) { (void)id, put("/freezer/reader/freezer.state", "THAWED"); }
+static void frozen(void) { set_aside(freeze, thaw); }
 
 /* poll and O_NONBLOCK */
 static short polls(short events, int ms) {
@@ -330,7 +323,7 @@ static const struct { const char *name; void (*run)(void); } tests[] = {
     {"traffic", traffic}, {"few_places", few_places},
 };
 int main(int words, char **word) {
-    alarm(60); /* if a process waits for ever */
+    alarm(300); /* if a process waits for ever */
     setpgid(0, 0);
     shared = mmap(NULL, sizeof *shared, PROT_READ | PROT_WRITE, MAP_SHARED | MAP_ANONYMOUS, -1, 0);
     device = open("/dev/zbuf", O_RDWR);

@@ -8,3 +8,7 @@ pub mod Longest
 pub mod Readers
 pub mod Rounds
 pub mod Behind
+pub mod HeadRuns
+pub mod HeadSteps
+pub mod HeadBounds
+pub mod HeadCalls

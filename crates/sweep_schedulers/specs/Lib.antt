@@ -5,3 +5,4 @@ pub mod ReadersWritersTraces
 pub mod Stays
 pub mod Sweeps
 pub mod Rounds
+pub mod HeadHistories

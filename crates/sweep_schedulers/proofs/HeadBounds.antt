@@ -19,7 +19,7 @@ use Rattle.hoare_law.proofs.Filters.{list_all-at}
 use Rattle.hoare_law.proofs.Sorted.{Rising, Rising-in_order}
 use Rattle.sweep_schedulers.specs.declared.direction.Direction.{Direction}
 use Rattle.sweep_schedulers.specs.Heads.{Disk, HeadRests, sweep, toward}
-use Rattle.sweep_schedulers.specs.HeadHistories.{Continues, IsHeadHistory, KeepsWaiting, Waits, hand_offs}
+use Rattle.sweep_schedulers.specs.HeadHistories.{ContinuesHead, IsHeadHistory, KeepsWaiting, Waits, hand_offs}
 use Rattle.sweep_schedulers.specs.Sweeps.{Awaits, IsWaiting, grants_before}
 use Rattle.sweep_schedulers.proofs.Lists.{count_by-cons}
 use Rattle.sweep_schedulers.proofs.Taken.{equals}
@@ -50,7 +50,7 @@ count_after p (u ∷ us) x vs is =
 module _ {T : Type 0} where
   -- each event of a history continues its place's procedures
   pub each_continues : (h : History (Disk T)) → IsHeadHistory h → (f later : List (Event (Disk T)))
-      (e : Event (Disk T)) → h.events ≡ f ++ e ∷ later → Continues f e
+      (e : Event (Disk T)) → h.events ≡ f ++ e ∷ later → ContinuesHead f e
   each_continues h is f later e at =
       (is.follows _ (is.stands.legal.each f later e at).in_range.0).each f later e at refl
 

@@ -29,7 +29,7 @@ use Rattle.hoare_law.proofs.Room.{waiting-anywhere, room_for_all}
 use Rattle.sweep_schedulers.specs.Heads.{Disk}
 use Rattle.sweep_schedulers.specs.HeadHistories.{HasResumed, IsToHandOn, released}
 use Rattle.sweep_schedulers.specs.HeadHistories.{other_disk, HandsOff, keeps, turns, Signals, Leaves, refused}
-use Rattle.sweep_schedulers.specs.HeadHistories.{at_once, granted, nobody_waits, returned, Continues, sweep_to, priority_to}
+use Rattle.sweep_schedulers.specs.HeadHistories.{at_once, granted, nobody_waits, returned, ContinuesHead, sweep_to, priority_to}
 use Rattle.sweep_schedulers.specs.Sweeps.{AtMost}
 
 -- the last two elements of a list
@@ -107,7 +107,7 @@ module _ {T : Type 0} where
 
 -- H is a legal history of the procedures' traces
 module _ {T : Type 0} (H : History (Disk T)) (legal : IsLegal H)
-    (follows : (f later : List (Event (Disk T))) (e : Event (Disk T)) → H.events ≡ f ++ e ∷ later → Continues f e)
+    (follows : (f later : List (Event (Disk T))) (e : Event (Disk T)) → H.events ≡ f ++ e ∷ later → ContinuesHead f e)
   where
     abbrev pub latest : List (Event (Disk T)) → Disk T
     latest f = latest_data (cut_to H f)

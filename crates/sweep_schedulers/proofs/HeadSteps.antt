@@ -42,7 +42,7 @@ use Rattle.sweep_schedulers.specs.Heads.{Disk, HeadRests, HeadReady, sweep, oppo
 use Rattle.sweep_schedulers.specs.Heads.{priority_at, cylinder_of}
 use Rattle.sweep_schedulers.specs.HeadHistories.{head_rest, head_ready, HasEntered, HasResumed, IsToHandOn, released}
 use Rattle.sweep_schedulers.specs.HeadHistories.{other_disk, HandsOff, Signals, Waits, Leaves, refused, at_once, granted}
-use Rattle.sweep_schedulers.specs.HeadHistories.{nobody_waits, returned, Continues, counted_at, sweep_to, priority_to}
+use Rattle.sweep_schedulers.specs.HeadHistories.{nobody_waits, returned, ContinuesHead, counted_at, sweep_to, priority_to}
 use Rattle.sweep_schedulers.specs.HeadHistories.{hands_drive, hand_offs}
 use Rattle.sweep_schedulers.specs.HeadHistories as histories
 use Rattle.sweep_schedulers.specs.Sweeps.{AtMost, first, granted_first, KeepsOrTurns, keeps, turns, IsPassed, by_equal}
@@ -156,7 +156,7 @@ module _ {T : Type 0} where
 
 -- x waits for the sweep in the direction side with priority p, and H is a history of the procedures
 module _ {T : Type 0} (H : History (Disk T)) (stands : Stands head_rest head_ready H)
-    (follows : (f later : List (Event (Disk T))) (e : Event (Disk T)) → H.events ≡ f ++ e ∷ later → Continues f e)
+    (follows : (f later : List (Event (Disk T))) (e : Event (Disk T)) → H.events ≡ f ++ e ∷ later → ContinuesHead f e)
     (x : Event (Disk T)) (side : Direction) (p : ℕ) (with : priority_of x ≡ p) where
   -- x waits, after k others of its priority
   pub record InTurn (f : List (Event (Disk T))) (k : ℕ) : Type 0 where

@@ -11,4 +11,8 @@ pub mod Behind
 pub mod HeadRuns
 pub mod HeadSteps
 pub mod HeadBounds
+pub mod Calls
 pub mod HeadCalls
+pub mod SharedSteps
+pub mod SharedBounds
+pub mod SharedCalls

@@ -8,11 +8,12 @@ use Rattle.hoare_law.specs.declared.event.Event.{Event}
 use Rattle.hoare_law.specs.declared.event.History.{History}
 use Rattle.hoare_law.specs.declared.event.Event.TheVariants.{Admit, Wait, Signal, Pass, Leave, Resume, Back, Notify}
 use Rattle.hoare_law.specs.declared.event.Event.TheVariants.{Broadcast, SignalTo}
-use Rattle.hoare_law.specs.Events.{place_of, own, newest, latest_data}
+use Rattle.hoare_law.specs.Events.{own, newest, latest_data}
 use Rattle.hoare_law.specs.Waiting.{priority_of, is_untouched, waiting}
 use Rattle.hoare_law.specs.Priorities.{priorities, in_order}
 use Rattle.hoare_law.specs.Lawful.{Rest, Ready, Stands}
 use Rattle.sweep_schedulers.specs.declared.direction.Direction.{Direction}
+use Rattle.sweep_schedulers.specs.Follows.{Follows}
 use Rattle.sweep_schedulers.specs.Heads.{Disk, HeadRests, HeadReady, sweep, opposite, turned, put, sent, counted}
 use Rattle.sweep_schedulers.specs.Heads.{toward, priority_at}
 
@@ -85,25 +86,20 @@ pub data Leaves {T : Type 0} (k : ℕ) (f : List (Event (Disk T))) (s : Disk T) 
 
 -- the event is one that a procedure adds next, after those that its place added before. What is found at an entry,
 -- at a resumption and at a return is determined by the machine
-abbrev pub Continues : {T : Type 0} → List (Event (Disk T)) → Event (Disk T) → Type 0
-Continues f (Wait k c p s) = Waits k c p f s
-Continues f (Leave k s) = Leaves k f s
-Continues f (Signal k c w s) = Signals k c f s
-Continues f (Pass k c w s) = Signals k c f s
-Continues f (SignalTo k c w s) = ⊥
-Continues f (Notify k c w s) = ⊥
-Continues f (Broadcast k c s) = ⊥
-Continues f _ = ⊤
-
--- the own events of place k are traces of the procedures, the last of them perhaps unfinished
-pub record Follows {T : Type 0} (k : ℕ) (h : History (Disk T)) : Type 0 where
-  pub each : (f later : List (Event (Disk T))) (e : Event (Disk T)) → h.events ≡ f ++ e ∷ later → place_of e ≡ k
-      → Continues f e
+abbrev pub ContinuesHead : {T : Type 0} → List (Event (Disk T)) → Event (Disk T) → Type 0
+ContinuesHead f (Wait k c p s) = Waits k c p f s
+ContinuesHead f (Leave k s) = Leaves k f s
+ContinuesHead f (Signal k c w s) = Signals k c f s
+ContinuesHead f (Pass k c w s) = Signals k c f s
+ContinuesHead f (SignalTo k c w s) = ⊥
+ContinuesHead f (Notify k c w s) = ⊥
+ContinuesHead f (Broadcast k c s) = ⊥
+ContinuesHead f _ = ⊤
 
 -- h is a legal and lawful history of a head that only the procedures use
 pub record IsHeadHistory {T : Type 0} (h : History (Disk T)) : Type 0 where
   pub stands : Stands head_rest head_ready h
-  pub follows : (k : ℕ) → k < h.sizes.places → Follows k h
+  pub follows : (k : ℕ) → k < h.sizes.places → Follows ContinuesHead k h
 
 -- the event hands the drive off to a waiting request
 abbrev pub hands_drive : {T : Type 0} → Event (Disk T) → Bool

@@ -15,4 +15,5 @@ pub mod Calls
 pub mod HeadCalls
 pub mod SharedSteps
 pub mod SharedBounds
+pub mod SharedWaits
 pub mod SharedCalls

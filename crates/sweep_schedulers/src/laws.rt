@@ -135,13 +135,28 @@ pub fn sharing_calls_follow<T>()
 {}
 
 /// States that each history of readers and writers that only the four procedures use is a run of `Runs`, between two
-/// moments at which the last event was a wait or a leave. So the bounds of `readers_go_in_rounds` hold of it: the
-/// readers and the writers that wait, in turn, are those of the history; the reads and the writes that began, and the
-/// rounds, are those that `counted_in` counts in its data.
+/// moments at which the last event was a wait or a leave. So the bounds of `readers_go_in_rounds` hold of it: the reads
+/// and the writes that began, and the rounds, are those that `counted_in` counts in its data.
+///
+/// - `is_run`: the readers and the writers that wait, in turn, are those of the history.
+/// - `writer`, `reader`: a writer still waits if its place hasn't begun to write, a reader if there was no round.
 pub fn a_sharing_history_is_a_run<T>()
-    ensures { (h : History (Shared T)) (later : List (Event (Shared T))) → IsSharedHistory (with_events h later)
+    ensures is_run { (h : History (Shared T)) (later : List (Event (Shared T))) → IsSharedHistory (with_events h later)
         → IsReleased h.events → IsReleased (h.events ++ later)
         → Runs (latest_data h) (length (waiting 0 h.events))
+        (map place_of (in_order priority_of (waiting 1 h.events)))
+        (moment_of (with_events h later) (counted_in h.events (latest_data h) no_counts later)) }
+    ensures writer { (h : History (Shared T)) (later before behind : List (Event (Shared T))) (x : Event (Shared T))
+        → IsSharedHistory (with_events h later) → IsReleased h.events → IsReleased (h.events ++ later)
+        → in_order priority_of (waiting 1 h.events) ≡ before ++ x ∷ behind
+        → All (λ k. k ≢ place_of x) (counted_in h.events (latest_data h) no_counts later).writes
+        → WriterWaits (latest_data h) (length (waiting 0 h.events)) (map place_of before) (place_of x)
+        (map place_of behind)
+        (moment_of (with_events h later) (counted_in h.events (latest_data h) no_counts later)) }
+    ensures reader { (h : History (Shared T)) (later : List (Event (Shared T))) → IsSharedHistory (with_events h later)
+        → IsReleased h.events → IsReleased (h.events ++ later) → 0 < length (waiting 0 h.events)
+        → (counted_in h.events (latest_data h) no_counts later).rounds ≡ []
+        → ReaderWaits (latest_data h) (length (waiting 0 h.events))
         (map place_of (in_order priority_of (waiting 1 h.events)))
         (moment_of (with_events h later) (counted_in h.events (latest_data h) no_counts later)) }
 {}

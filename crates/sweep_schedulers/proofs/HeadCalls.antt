@@ -9,7 +9,8 @@ use Rattle.hoare_law.proofs.Events.{newest-push}
 use Rattle.sweep_schedulers.specs.declared.head.OffDisk.{OffDisk}
 use Rattle.sweep_schedulers.specs.declared.not_out.NotOut.{NotOut}
 use Rattle.sweep_schedulers.specs.Heads.{Disk, sweep, opposite, turned, put, sent}
-use Rattle.sweep_schedulers.specs.HeadTraces.{counted_after, Reaches, waited, HandsOn, Requests, off_disk, Releases, put_in}
+use Rattle.sweep_schedulers.specs.HeadTraces.{counted_after, Reaches, waited, HandsOn, Requests, off_disk, Releases}
+use Rattle.sweep_schedulers.specs.HeadTraces.{put_in}
 use Rattle.sweep_schedulers.specs.HeadTraces as traces
 use Rattle.sweep_schedulers.specs.HeadHistories.{HasEntered, HasResumed, IsToHandOn, released, other_disk, keeps, turns}
 use Rattle.sweep_schedulers.specs.HeadHistories.{Signals, refused, at_once, granted, nobody_waits, returned}
@@ -34,7 +35,8 @@ module _ {T : Type 0} where
 
   finishes : (k c : ℕ) (s : Disk T) (g h : History (Disk T)) → Keeps k g → Signals k c g.events s → Finishes k c s g h
       → Keeps k h
-  finishes k c s g h follows hands (exited b (passed_on w chooses is)) = by_last ContinuesHead k g h (Pass k c w s) follows is hands
+  finishes k c s g h follows hands (exited b (passed_on w chooses is)) =
+      by_last ContinuesHead k g h (Pass k c w s) follows is hands
   finishes k c s g h follows hands (exited b (just_left none is)) =
       by_last ContinuesHead k g h (Leave k s) follows is (nobody_waits c hands none)
   finishes k c s g h follows hands (signalled w t m chooses adds is) =

@@ -29,7 +29,8 @@ use Rattle.hoare_law.proofs.Room.{waiting-anywhere, room_for_all}
 use Rattle.sweep_schedulers.specs.Heads.{Disk}
 use Rattle.sweep_schedulers.specs.HeadHistories.{HasResumed, IsToHandOn, released}
 use Rattle.sweep_schedulers.specs.HeadHistories.{other_disk, HandsOff, keeps, turns, Signals, Leaves, refused}
-use Rattle.sweep_schedulers.specs.HeadHistories.{at_once, granted, nobody_waits, returned, ContinuesHead, sweep_to, priority_to}
+use Rattle.sweep_schedulers.specs.HeadHistories.{at_once, granted, nobody_waits, returned, ContinuesHead}
+use Rattle.sweep_schedulers.specs.HeadHistories.{sweep_to, priority_to}
 use Rattle.sweep_schedulers.specs.Sweeps.{AtMost}
 
 -- the last two elements of a list

@@ -38,11 +38,13 @@ use Rattle.hoare_law.proofs.Resuming.{chosen_among}
 use Rattle.hoare_law.proofs.Waiters.{chosen-waits}
 use Rattle.sweep_schedulers.specs.declared.direction.Direction.{Direction}
 use Rattle.sweep_schedulers.specs.declared.direction.Direction.TheVariants.{Up, Down}
-use Rattle.sweep_schedulers.specs.Heads.{Disk, HeadRests, HeadReady, sweep, opposite, turned, put, sent, counted, toward}
+use Rattle.sweep_schedulers.specs.Heads.{Disk, HeadRests, HeadReady, sweep, opposite, turned, put, sent, counted}
+use Rattle.sweep_schedulers.specs.Heads.{toward}
 use Rattle.sweep_schedulers.specs.Heads.{priority_at, cylinder_of}
 use Rattle.sweep_schedulers.specs.HeadHistories.{head_rest, head_ready, HasEntered, HasResumed, IsToHandOn, released}
-use Rattle.sweep_schedulers.specs.HeadHistories.{other_disk, HandsOff, Signals, Waits, Leaves, refused, at_once, granted}
-use Rattle.sweep_schedulers.specs.HeadHistories.{nobody_waits, returned, ContinuesHead, counted_at, sweep_to, priority_to}
+use Rattle.sweep_schedulers.specs.HeadHistories.{other_disk, HandsOff, Signals, Waits, Leaves, refused, at_once}
+use Rattle.sweep_schedulers.specs.HeadHistories.{granted, nobody_waits, returned, ContinuesHead, counted_at, sweep_to}
+use Rattle.sweep_schedulers.specs.HeadHistories.{priority_to}
 use Rattle.sweep_schedulers.specs.HeadHistories.{hands_drive, hand_offs}
 use Rattle.sweep_schedulers.specs.HeadHistories as histories
 use Rattle.sweep_schedulers.specs.Sweeps.{AtMost, first, granted_first, KeepsOrTurns, keeps, turns, IsPassed, by_equal}
@@ -50,7 +52,8 @@ use Rattle.sweep_schedulers.specs.Sweeps.{by_other, Awaits, none, joins, grants}
 use Rattle.sweep_schedulers.proofs.Lists.{count_by-cons}
 use Rattle.sweep_schedulers.proofs.Sweeps.{granted_by}
 use Rattle.sweep_schedulers.proofs.Taken.{equals, same_sweep, is_sweep}
-use Rattle.sweep_schedulers.proofs.HeadRuns.{last_two, newest-two, in_turn-same, latest-held, latest, latest-push, SameDisk}
+use Rattle.sweep_schedulers.proofs.HeadRuns.{last_two, newest-two, in_turn-same, latest-held, latest, latest-push}
+use Rattle.sweep_schedulers.proofs.HeadRuns.{SameDisk}
 use Rattle.sweep_schedulers.proofs.HeadRuns.{own-resumed, no_other, few_next, all_same}
 
 some_append : {X : Type 0} (us : List X) (x : X) (vs : List X) → us ++ x ∷ vs ≢ []
@@ -319,7 +322,8 @@ module _ {T : Type 0} (H : History (Disk T)) (stands : Stands head_rest head_rea
           let both : Held w ≡ Owed j b = sym t ∙ a.0 in absurd (cc)
 
   -- the place inside left
-  step_leave : (f later : List (Event (Disk T))) (j : ℕ) (s : Disk T) (d : Disk T) (k : ℕ) → All (SameDisk H stands.legal follows) f
+  step_leave : (f later : List (Event (Disk T))) (j : ℕ) (s : Disk T) (d : Disk T) (k : ℕ)
+      → All (SameDisk H stands.legal follows) f
       → H.events ≡ f ++ Leave j s ∷ later → Now f d k → Step f (Leave j s) d k
   step_leave f later j s d k all is n =
       still f e d k
@@ -349,7 +353,8 @@ module _ {T : Type 0} (H : History (Disk T)) (stands : Stands head_rest head_rea
       at_rest is (at_once a dest entered is_in on to) =
           absurd (out is a (found (Admit j a) entered) is_in)
       at_rest is (granted a y dest r same is_in to) =
-          absurd (out is y (found (Resume j (sweep_to dest a) y) (own-resumed H stands.legal follows f j dest a y r)) is_in)
+          absurd (out is y
+          (found (Resume j (sweep_to dest a) y) (own-resumed H stands.legal follows f j dest a y r)) is_in)
       at_rest is (nobody_waits c r empty) = absurd (handed_some f k c r.disk s n.waits r.hands_off empty)
       at_rest is (returned last) = resting (left ∙ sym (found (Back j s) last) ∙ is)
 

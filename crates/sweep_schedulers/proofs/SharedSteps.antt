@@ -218,7 +218,8 @@ module _ {T : Type 0} where
 
 -- H is a history of the procedures, and the runs begin with these data, readers and writers
 module _ {T : Type 0} (H : History (Shared T)) (stands : Stands shared_rest shared_ready H)
-    (follows : (f later : List (Event (Shared T))) (e : Event (Shared T)) → H.events ≡ f ++ e ∷ later → ContinuesSharing f e)
+    (follows : (f later : List (Event (Shared T))) (e : Event (Shared T)) → H.events ≡ f ++ e ∷ later
+    → ContinuesSharing f e)
     (s0 : Shared T) (r0 : ℕ) (ws0 : List ℕ) where
   abbrev pub now : List (Event (Shared T)) → Shared T
   now f = latest_data (cut_to H f)
@@ -438,7 +439,8 @@ module _ {T : Type 0} (H : History (Shared T)) (stands : Stands shared_rest shar
       → ((c : ℕ) → in_turn (f ++ e ∷ []) c ≡ in_turn f c) → now (f ++ e ∷ []) ≡ now f → IsSettled (f ++ e ∷ [])
       → Reached (moment f (now f) n) → IsAt (f ++ e ∷ []) n
   settled_still f e n same found calm run =
-      settled calm (subst Reached (sym (same_moment f e same (now f) n) ∙ ap (λ s. moment (f ++ e ∷ []) s n) (sym found))
+      settled calm
+      (subst Reached (sym (same_moment f e same (now f) n) ∙ ap (λ s. moment (f ++ e ∷ []) s n) (sym found))
       run)
 
   inside_settled : (f : List (Event (Shared T))) (e : Event (Shared T)) (k : ℕ) → turn (f ++ e ∷ []) ≡ Held k
@@ -470,7 +472,8 @@ module _ {T : Type 0} (H : History (Shared T)) (stands : Stands shared_rest shar
 
       by : now (f ++ e ∷ []) ≡ now f → IsAt f n → IsAt (f ++ e ∷ []) n
       by found (settled calm run) =
-          settled_still f e n same found (inside_settled f e j (turn-in (cut_to H f) j e refl refl) (λ i c t at. cc)) run
+          settled_still f e n same found
+          (inside_settled f e j (turn-in (cut_to H f) j e refl refl) (λ i c t at. cc)) run
       by found (writer_comes w come free run) = absurd (no w 1 come)
       by found (readers_come w come run) = absurd (no w 0 come)
 
@@ -495,7 +498,8 @@ module _ {T : Type 0} (H : History (Shared T)) (stands : Stands shared_rest shar
 
       by : now (f ++ e ∷ []) ≡ now f → IsAt f n → IsAt (f ++ e ∷ []) n
       by found (settled calm run) =
-          settled_still f e n same found (inside_settled f e j (turn-in (cut_to H f) j e refl refl) (λ i c t at. cc)) run
+          settled_still f e n same found
+          (inside_settled f e j (turn-in (cut_to H f) j e refl refl) (λ i c t at. cc)) run
       by found (writer_comes w come free run) = absurd (no w 1 come)
       by found (readers_come w come run) = absurd (no w 0 come)
 
@@ -663,7 +667,8 @@ module _ {T : Type 0} (H : History (Shared T)) (stands : Stands shared_rest shar
           let run = no_writer (with_readers a 0) n (subst (λ (b : ℕ). waiting b f ≡ []) on empty)
           (last_read_ends (moment f a n) r.1 one) in
           left f later j s n n is here
-          (counts_same f (now f) n e (ap (λ (t : Shared T). nat_lt (now f).readers t.readers) to ∙ no_less (now f).readers)
+          (counts_same f (now f) n e
+          (ap (λ (t : Shared T). nat_lt (now f).readers t.readers) to ∙ no_less (now f).readers)
           (ap (λ (t : Shared T). t.busy) to ∙ ap (λ (t : Shared T). t.busy) (sym r.0)))
           (subst (λ (t : Shared T). Reached (moment f t n)) (sym to) run)
       ends_by c (to_readers a value mine in_use some to on) empty =
@@ -709,7 +714,8 @@ module _ {T : Type 0} (H : History (Shared T)) (stands : Stands shared_rest shar
 
   -- the place inside waits
   step_wait : (f later : List (Event (Shared T))) (j c p : ℕ) (s : Shared T) (n : Counts)
-      → H.events ≡ f ++ Wait j c p s ∷ later → Now f n → Now (f ++ Wait j c p s ∷ []) (counting f (now f) n (Wait j c p s))
+      → H.events ≡ f ++ Wait j c p s ∷ later → Now f n
+      → Now (f ++ Wait j c p s ∷ []) (counting f (now f) n (Wait j c p s))
   step_wait f later j c p s n is here = by (follows f later e is)
     where
       e : Event (Shared T)
@@ -1013,7 +1019,8 @@ module _ {T : Type 0} (H : History (Shared T)) (stands : Stands shared_rest shar
           turn-push g e ∙ freed (after e) gives (place_of e) (urgent (g ++ e ∷ []))
           (called (g ++ e ∷ [])) in
           not_owed_free (urgent (g ++ e ∷ [])) w c
-          (ap (turn_given_up (urgent (g ++ e ∷ []))) (sym (ap called (sym ends) ∙ none)) ∙ sym t ∙ ap turn (sym ends) ∙ is)
+          (ap (turn_given_up (urgent (g ++ e ∷ []))) (sym (ap called (sym ends) ∙ none)) ∙ sym t
+          ∙ ap turn (sym ends) ∙ is)
 
   -- so the moment is settled
   pub settled_in : (f : List (Event (Shared T))) (n : Counts) → IsReleased f → Now f n

@@ -68,10 +68,12 @@ module _ {T : Type 0} where
     where
       by : HasLast h.events → ReadersRest (latest_data h) (priorities h.events 0) (priorities h.events 1)
       by (nothing empty) =
-          subst (λ (l : List (Event (Shared T))). ReadersRest (latest_data (cut_to h l)) (priorities l 0) (priorities l 1))
+          subst
+          (λ (l : List (Event (Shared T))). ReadersRest (latest_data (cut_to h l)) (priorities l 0) (priorities l 1))
           (sym empty) is.stands.lawful.opens
       by (pushed g e ends) =
-          subst (λ (l : List (Event (Shared T))). ReadersRest (latest_data (cut_to h l)) (priorities l 0) (priorities l 1))
+          subst
+          (λ (l : List (Event (Shared T))). ReadersRest (latest_data (cut_to h l)) (priorities l 0) (priorities l 1))
           (sym ends)
           (subst (λ (s : Shared T). ReadersRest s (priorities (g ++ e ∷ []) 0) (priorities (g ++ e ∷ []) 1))
           (sym (last_data h g e))

@@ -93,7 +93,8 @@ pub fn head_calls_follow<T>()
         → Requests k dest f h r → Follows ContinuesHead k h }
     ensures by_release { (k : ℕ) (drive : T) (f h : History (Disk T)) (r : Result (Unit {0}) (NotOut T))
         → Follows ContinuesHead k f → Releases k drive f h r → Follows ContinuesHead k h }
-    ensures by_others { (k : ℕ) (f h : History (Disk T)) → Follows ContinuesHead k f → Grows k [] f h → Follows ContinuesHead k h }
+    ensures by_others { (k : ℕ) (f h : History (Disk T)) → Follows ContinuesHead k f → Grows k [] f h
+        → Follows ContinuesHead k h }
 {}
 
 /// States that each history of a disk head that only `request` and `release` use is a run of `Awaits`, while a request

@@ -8,3 +8,12 @@ pub mod Longest
 pub mod Readers
 pub mod Rounds
 pub mod Behind
+pub mod HeadRuns
+pub mod HeadSteps
+pub mod HeadBounds
+pub mod Calls
+pub mod HeadCalls
+pub mod SharedSteps
+pub mod SharedBounds
+pub mod SharedWaits
+pub mod SharedCalls

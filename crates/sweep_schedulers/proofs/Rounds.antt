@@ -1,5 +1,5 @@
 -- Each step of readers and writers keeps rest, and writers begin in the order in which they came.
-use Rattle.std.proofs.Common.{◌≡◌, ◌≢◌, ℕ, zero, suc, ◌<◌, ◌⊎◌, List, [], ◌∷◌, ◌++◌, Bool, true, false}
+use Rattle.std.proofs.Common.{◌≡◌, ◌≢◌, ℕ, zero, suc, ◌<◌, ◌⊎◌, List, [], ◌∷◌, ◌++◌, true, false}
 use Rattle.std.proofs.Common.{length, refl, inl, inr, sym, ◌∙◌, true≢false, arith}
 use Rattle.std.proofs.lemmas.List.{append-nil, append_assoc}
 use Rattle.sweep_schedulers.specs.ReadersWriters.{Shared, IsInUse, ReadersHold, ReadersRest, ReadReady, with_readers}

@@ -203,7 +203,7 @@ sweep_hoare Down = omega arith
 
 module _ {T : Type 0} (found : Disk T) (ups downs : List ℕ) where
   -- rest holds once the head is at the cylinder of the granted request, which was the first ahead of the head
-  granted_by : (dir : Direction) (dest cylmax : ℕ) → dest ≤ cylmax → found.cylmax ≡ cylmax
+  pub granted_by : (dir : Direction) (dest cylmax : ℕ) → dest ≤ cylmax → found.cylmax ≡ cylmax
       → HeadReady (sweep dir) (priority_at cylmax dir dest) found ups downs
       → HeadRests (counted (sent found dest) ups downs) ups downs
   granted_by Up dest cylmax on same r = record {

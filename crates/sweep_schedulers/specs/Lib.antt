@@ -5,3 +5,6 @@ pub mod ReadersWritersTraces
 pub mod Stays
 pub mod Sweeps
 pub mod Rounds
+pub mod Follows
+pub mod HeadHistories
+pub mod SharedHistories

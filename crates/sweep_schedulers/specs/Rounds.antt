@@ -2,8 +2,8 @@
 -- One step is one call, together with all processes that resume because of it: each of them is resumed by the last act
 -- of the process before it, and no process enters in between. The data of a step are those of the procedure's trace
 -- (ReadersWritersTraces). All processes wait with priority 0, so the waiting writers begin in the order in which they
--- came. A refused call of end_read or end_write changes nothing, so it is no step. Not proved: that each history of a
--- monitor that only these procedures use is a run of these steps.
+-- came. A refused call of end_read or end_write changes nothing, so it is no step. Each history of a monitor that only
+-- these procedures use is a run of these steps (`laws::a_sharing_history_is_a_run`).
 use Rattle.std.specs.Prelude.{ℕ, suc, ◌+◌, ◌-◌, ◌<◌, List, [], ◌∷◌, ◌++◌, length, replicate, if◌then◌else◌, true}
 use Rattle.std.specs.Prelude.{◌≡◌, ◌≢◌, ◌⊎◌, Ok, Err, All}
 use Rattle.sweep_schedulers.specs.declared.readers_writers.ReadPass.{ReadPass}

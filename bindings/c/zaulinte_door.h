@@ -54,7 +54,7 @@ enum zaulinte_door_code {
     ZAULINTE_DOOR_BAD_PLACES = 109,    /* none, or over 64 */
     ZAULINTE_DOOR_BAD_CONDITIONS = 110, /* none, over 8, or more Mesa conditions than conditions */
     ZAULINTE_DOOR_NO_MEMORY = 111,     /* an allocation failed */
-    ZAULINTE_DOOR_IN_USE = 112,        /* a place isn't in hand, or its `give_back` hasn't returned */
+    ZAULINTE_DOOR_IN_USE = 112,        /* a place isn't in hand */
     ZAULINTE_DOOR_NOT_AWAY = 113,      /* the place neither waits nor has it signalled */
     ZAULINTE_DOOR_NONE_LEFT = 114      /* all places are taken */
 };
@@ -68,10 +68,8 @@ enum zaulinte_door_where { ZAULINTE_DOOR_OUTSIDE, ZAULINTE_DOOR_INSIDE, ZAULINTE
 uint64_t zaulinte_door_make(zaulinte_door *door, uint64_t places, uint64_t conditions, uint64_t mesa, uint64_t value);
 /* Gives a place out into `place`, for a thread of its own, and returns its number, below 64: the number by which an act
  * names this place as the one to wake. If no place is in hand, the function first collects. The numbers are places - 1,
- * .., 0; once a place was given back, or an allocation failed here, each is any number that isn't out. Refused: 108
- * `place` holds a place already, 107 `door` holds no door, 114 all places are taken, 111 an allocation failed. Then
- * the place goes back to its door, and nothing is lost; but `close` is refused until `collect`, or the next `give_out`,
- * has taken it in hand again. */
+ * .., 0; once a place was given back, each is any number that isn't out. Refused: 108 `place` holds a place already,
+ * 107 `door` holds no door, 114 all places are taken, 111 an allocation failed: the place is still in hand then. */
 uint64_t zaulinte_door_give_out(zaulinte_door *door, zaulinte_door_place *place);
 /* Gives the place back to its door, and returns 0: `place` then holds nothing. Refused: 107 `place` holds nothing, 103
  * the place isn't outside, 102 another thread has the place's slot in hand at this moment (try again). */
@@ -81,7 +79,7 @@ uint64_t zaulinte_door_give_back(zaulinte_door_place *place);
 uint64_t zaulinte_door_collect(zaulinte_door *door);
 /* Closes the door if all of its places are in hand (see `collect`), writes the word that the last visit left to *value,
  * and returns 0: `door` then holds nothing. Refused: 107 `door` holds no door; 112 a place was given out, and not given
- * back and collected, or a `give_back` in another thread has put its place back but hasn't returned. A refusal loses
+ * back and collected; 102 all places are in hand, but a `give_back` in another thread hasn't returned. A refusal loses
  * nothing, and *value stays: try again later. */
 uint64_t zaulinte_door_close(zaulinte_door *door, uint64_t *value);
 

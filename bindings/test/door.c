@@ -386,7 +386,7 @@ static void make_without_memory(uint64_t places) {
     IS(k > 1, 1);
     closes(0, 5);
 }
-/* the place went back at each refusal, so any number that isn't out may be next */
+/* the place stays in hand at each refusal; places that were given back before may come in any order */
 static void given_out_without_memory(int i, int places) {
     uint64_t code = 111;
     unsigned before = pieces, k = 0;

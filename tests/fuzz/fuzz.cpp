@@ -67,7 +67,8 @@ struct book : monitor { zaulinte_book handle{}; };
 struct door : monitor {
     zaulinte_door handle{};
     word value = 0;
-    bool in_order = true, in_hand = true; // give_out returns places - 1, .., 0; all places are out or in hand
+    word in_hand = 0;     // the number of places in hand
+    bool in_order = true; // give_out returns places - 1, .., 0
     std::set<word> out;
 };
 static door no_door;
@@ -186,18 +187,19 @@ struct world {
         return nullptr;
     }
     void make(door &d, word value) {
-        if (!make(zaulinte_door_make, d.handle, d, value)) d.value = value, d.in_order = d.in_hand = true;
+        if (!make(zaulinte_door_make, d.handle, d, value)) d.value = value, d.in_order = true, d.in_hand = d.places;
     }
     void close(door &d) {
-        word value = untouched, code = !d.live ? 107 : !d.out.empty() || !d.in_hand ? 112 : 0;
+        word value = untouched, code = !d.live ? 107 : d.in_hand < d.places ? 112 : 0;
         same("close", {zaulinte_door_close(&d.handle, &value), value}, {code, code ? untouched : d.value});
         if (!code) d.live = false;
     }
     void give_out(door &d, place &p) {
         word got = zaulinte_door_give_out(&d.handle, &p.handle), code = p.of->live ? 108 : !d.live ? 107 : 0;
         if (!code) code = d.out.size() == d.places ? 114 : failed ? 111 : 0;
-        if (code == 111) d.in_order = d.in_hand = false;
+        if ((!code || code == 111) && !d.in_hand) d.in_hand = d.places - d.out.size(); // it collects
         if (code) return same("give_out", {got}, {code});
+        d.in_hand--;
         if (d.in_order) same("give_out in order", {got}, {d.places - 1 - d.out.size()});
         same("give_out of a place that isn't out", {got < d.places && d.out.insert(got).second}, {true});
         p.of = &d, p.number = got;
@@ -205,7 +207,7 @@ struct world {
     void give_back(place &p) {
         word code = p.refusal(OUTSIDE);
         same("give_back", {zaulinte_door_give_back(&p.handle)}, {code});
-        if (!code) p.of->out.erase(p.number), p.of->in_order = p.of->in_hand = false, p.of = &no_door;
+        if (!code) p.of->out.erase(p.number), p.of->in_order = false, p.of = &no_door;
     }
     void come_in(place &p, state from) {
         auto *call = from == AWAY ? zaulinte_door_try_return : zaulinte_door_try_enter;
@@ -244,7 +246,7 @@ struct world {
             else let(*p, c >= d.conditions ? LEAVE : d.is_mesa(c) ? BROADCAST : PASS, c, 0);
         }
         same("collect", {zaulinte_door_collect(&d.handle)}, {d.live ? 0u : 107});
-        d.in_hand = true;
+        d.in_hand = d.places - d.out.size();
         close(d);
     }
     void call(zaulinte_head &h, zaulinte_head &m) {

@@ -1,5 +1,5 @@
 -- The codes that C gets for results and refusals.
-use Rattle.std.specs.Prelude.{ℕ, ◌≡◌, ◌<◌, false, nat_lt, if◌then◌else◌, length, Option, Some, None}
+use Rattle.std.specs.Prelude.{ℕ, ◌≡◌, ◌<◌, ◌≤◌, false, nat_lt, if◌then◌else◌, length, Option, Some, None}
 use Rattle.hoare_law.specs.declared.event.Event.{Event}
 use Rattle.hoare_law.specs.declared.event.History.{History}
 use Rattle.hoare_law.specs.Turns.{turn, outside}
@@ -76,6 +76,18 @@ RefusalKeeps old new code = 64 < code → new ≡ old
 -- if there is no book (live is 0), the code is 107, and C's words are as they were
 abbrev pub LacksBook : {W : Type 0} → ℕ → W → W → ℕ → Type 0
 LacksBook live old new code = live ≡ 0 → (code ≡ 107) × (new ≡ old)
+
+-- a code below 64 is a place of the book, which has so many; else it is 64, or a refusal, 101 to 107
+pub record IsStepCode (places code : ℕ) : Type 0 where
+  pub place : code < 64 → code < places
+  pub refusal : 64 < code → 101 ≤ code
+  pub most : code ≤ 107
+
+-- an answer from `least` to `most`, the code of a refusal, or 107 if there is no book
+pub data IsAnswer (least most refusal code : ℕ) : Type 0 where
+  answer : least ≤ code → code ≤ most → IsAnswer least most refusal code
+  refused_by : code ≡ refusal → IsAnswer least most refusal code
+  no_book : code ≡ 107 → IsAnswer least most refusal code
 
 -- 1 if the place is outside, else 0; or 101 if no place has this number
 abbrev pub outside_code : History (Unit {0}) → ℕ → ℕ

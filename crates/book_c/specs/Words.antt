@@ -1,7 +1,7 @@
 -- C's words as those of `c_handle`, and back.
 use Rattle.std.specs.Borrow.{Lends, MutBor, Fml}
 use Rattle.wait_book.specs.Contents.{Contents}
-use Rattle.wait_book.specs.contracts.book.Book as books
+use Rattle.book_c.specs.contracts.legal_book.LegalBook as books
 use Rattle.c_handle.specs.declared.held.Held as generic
 use Rattle.c_handle.specs.contracts.held.Held as held
 use Rattle.book_c.specs.declared.place.Held.{Held}

@@ -1,8 +1,8 @@
 //! The results and refusals of a book's calls, as codes for C.
-ghost use Rattle.std.specs.Prelude.{◌≡◌, ◌<◌, ◌≤◌};
+ghost use Rattle.std.specs.Prelude.{◌≡◌, ◌≢◌, ◌<◌, ◌≤◌};
 ghost use Rattle.hoare_law.specs.declared.event.History.{History};
 ghost use Rattle.wait_book.specs.Contents.{IsOf};
-ghost use Rattle.book_c.specs.Codes.{SignalledTo, Stepped, Tells, make_code, outside_code, queue_code};
+ghost use Rattle.book_c.specs.Codes.{IsAnswer, IsStepCode, SignalledTo, Stepped, Tells, make_code, outside_code, queue_code};
 ghost use Rattle.book_c.specs.Codes.{first_or, condition_code, count_or, refusal_code};
 
 use hoare_law::waits::Waits;
@@ -29,7 +29,8 @@ pub const NO_MEMORY: u64 = 111;
 
 /// Returns the code of a refusal of a step: 101 to 106.
 pub fn refusal_code(refused: StepRefused) -> u64
-    ensures { result ≡ refusal_code refused }
+    ensures is { result ≡ refusal_code refused }
+    ensures bounds { (101 ≤ result) × (result ≤ 106) }
 {
     match refused {
         StepRefused::NoPlace => NO_PLACE,
@@ -57,6 +58,7 @@ pub fn make_code(refused: MakeRefused) -> u64
 pub fn inside(book: &Book) -> u64
     ensures of { (h : History (Unit {0})) → IsOf book.now h → Tells h result }
     ensures few { result ≤ 64 }
+    ensures place { result < 64 → result < book.now.sizes.places }
 {
     let _ = book.places(); // at most 64: a place below it is less than 64
     match book.now() {
@@ -71,6 +73,7 @@ pub fn inside(book: &Book) -> u64
 pub fn stepped(book: &mut Book, step: Step) -> u64
     ensures of { (h : History (Unit {0})) → IsOf book.old h → Stepped h step book.new result }
     ensures refused { 64 < result → book.new ≡ book.old }
+    ensures bounds { IsStepCode book.new.sizes.places result }
 {
     match book.try_step(step) {
         Ok(_) => inside(book),
@@ -83,6 +86,7 @@ pub fn stepped(book: &mut Book, step: Step) -> u64
 pub fn signalled_to(book: &mut Book, place: u64, condition: u64, waiter: u64) -> u64
     ensures of { (h : History (Unit {0})) → IsOf book.old h → SignalledTo h place condition waiter book.new result }
     ensures refused { 64 < result → book.new ≡ book.old }
+    ensures bounds { IsStepCode book.new.sizes.places result }
 {
     match book.try_signal_to(place, condition, waiter) {
         Ok(_) => inside(book),
@@ -92,7 +96,8 @@ pub fn signalled_to(book: &mut Book, place: u64, condition: u64, waiter: u64) ->
 
 /// Returns 1 if `place` is outside, else 0. Refused: `NO_PLACE`.
 pub fn outside(book: &Book, place: u64) -> u64
-    ensures { (h : History (Unit {0})) → IsOf book.now h → result ≡ outside_code h place }
+    ensures of { (h : History (Unit {0})) → IsOf book.now h → result ≡ outside_code h place }
+    ensures bounds { IsAnswer 0 1 101 result }
 {
     if place >= book.places() as u64 {
         return NO_PLACE;
@@ -102,7 +107,8 @@ pub fn outside(book: &Book, place: u64) -> u64
 
 /// Returns 1 if a place waits on `condition`, else 0. Refused: `NO_CONDITION`.
 pub fn queue(book: &Book, condition: u64) -> u64
-    ensures { (h : History (Unit {0})) → IsOf book.now h → result ≡ queue_code h condition }
+    ensures of { (h : History (Unit {0})) → IsOf book.now h → result ≡ queue_code h condition }
+    ensures bounds { IsAnswer 0 1 105 result }
 {
     if condition >= book.conditions() as u64 {
         return NO_CONDITION;
@@ -119,6 +125,8 @@ pub fn first(book: &Book, condition: u64, priority: &mut u64) -> u64
     ensures answer { (h : History (Unit {0})) → IsOf book.now h → result ≡ queue_code h condition }
     ensures priority { (h : History (Unit {0})) → IsOf book.now h
         → priority.new ≡ first_or h condition priority.old }
+    ensures bounds { IsAnswer 0 1 105 result }
+    ensures kept { result ≢ 1 → priority.new ≡ priority.old }
 {
     if condition >= book.conditions() as u64 {
         return NO_CONDITION;
@@ -139,6 +147,8 @@ pub fn count(book: &Book, condition: u64, count: &mut u64) -> u64
         → result ≡ condition_code h condition }
     ensures count { (h : History (Unit {0})) → IsOf book.now h
         → count.new ≡ count_or h condition count.old }
+    ensures bounds { IsAnswer 0 0 105 result }
+    ensures kept { result ≢ 0 → count.new ≡ count.old }
 {
     if condition >= book.conditions() as u64 {
         return NO_CONDITION;

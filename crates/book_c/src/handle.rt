@@ -3,13 +3,13 @@ ghost use Rattle.std.specs.Prelude.{◌≡◌, ℕ};
 ghost use Rattle.std_alloc.specs.Box.Ownership.{box_owns};
 ghost use Rattle.c_handle.specs.Owned.{owned};
 ghost use Rattle.wait_book.specs.Contents.{Contents};
-ghost use Rattle.wait_book.specs.contracts.book.Book as books;
+ghost use Rattle.book_c.specs.contracts.legal_book.LegalBook as books;
 
 use std::alloc::{Allocator, Global};
 use std::marker::Model;
 
 /// A pointer that owns a book if the ghost field `live` is 1; `value` is then that book. It is
-/// `c_handle::handle::Handle<Book>` without a type argument, since no type with arguments crosses to C.
+/// `c_handle::handle::Handle<LegalBook>` without a type argument, since no type with arguments crosses to C.
 #[repr(C)]
 pub struct Handle {
     at: *mut u8,

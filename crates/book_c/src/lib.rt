@@ -1,25 +1,28 @@
 //! The queue book for C: each function that C calls. `bindings/c/zaulinte_book.h` declares them.
 //!
 //! `book` is a word and two pointers of C's, all 0 at first; a `Global` is nothing to C. No function has a premise: each
-//! returns for every number, and if there is no book. A returned place of a book that has a history is below 64.
+//! returns for every number, and if there is no book. What C holds is the book of some legal history, so a returned place
+//! is one of the book's, below 64.
 #![tactic(auto)]
 
-ghost use Rattle.std.specs.Prelude.{◌≡◌, ◌≤◌, ◌⊎◌, Some, None};
+ghost use Rattle.std.specs.Prelude.{◌≡◌, ◌≢◌, ◌≤◌, ◌⊎◌, Some, None};
 ghost use Rattle.hoare_law.specs.declared.event.History.{History};
 ghost use Rattle.hoare_law.specs.Events.{opened};
 ghost use Rattle.hoare_law.specs.Sizes.{sizes_of};
 ghost use Rattle.wait_book.specs.declared.steps.MakeRefused.{MakeRefused};
 ghost use Rattle.wait_book.specs.declared.steps.Step.TheVariants as steps;
 ghost use Rattle.wait_book.specs.Contents.{make_refusal};
-ghost use Rattle.book_c.specs.Held.{Holds};
+ghost use Rattle.book_c.specs.Held.{Holds, HoldsSome};
 ghost use Rattle.book_c.specs.Codes.{LacksBook, RefusalKeeps, Steps, Tells, make_code, outside_code, queue_code};
-ghost use Rattle.book_c.specs.Codes.{SignalsTo, first_or, condition_code, count_or};
+ghost use Rattle.book_c.specs.Codes.{IsAnswer, IsStepCode, SignalsTo, first_or, condition_code, count_or};
 
 mod codes;
 pub mod handle;
+pub mod legal_book;
 pub mod place;
 
 use codes::{IS_MADE, NO_BOOK, NO_MEMORY};
+use legal_book::LegalBook;
 use place::Held;
 use std::alloc::Global;
 use wait_book::book::Book;
@@ -52,7 +55,7 @@ pub extern "C" fn zaulinte_book_make(
         Ok(made) => made,
         Err(refused) => return codes::make_code(refused),
     };
-    match book.held().keep(alloc, made) {
+    match book.held().keep(alloc, LegalBook::new(made)) {
         Ok(()) => 0,
         Err(_) => NO_MEMORY,
     }
@@ -80,6 +83,8 @@ pub extern "C" fn zaulinte_book_enter(_alloc: Global, book: &mut Held, place: u6
         book.new.handle.value result }
     ensures refused { RefusalKeeps book.old.handle.value book.new.handle.value result }
     ensures none { LacksBook book.old.live book.old book.new result }
+    ensures legal { HoldsSome book.old.live book.old.handle.value × HoldsSome book.new.live book.new.handle.value }
+    ensures bounds { IsStepCode book.new.handle.value.sizes.places result }
 {
     book.step(Step::Enter(place))
 }
@@ -92,6 +97,8 @@ pub extern "C" fn zaulinte_book_leave(_alloc: Global, book: &mut Held, place: u6
         book.new.handle.value result }
     ensures refused { RefusalKeeps book.old.handle.value book.new.handle.value result }
     ensures none { LacksBook book.old.live book.old book.new result }
+    ensures legal { HoldsSome book.old.live book.old.handle.value × HoldsSome book.new.live book.new.handle.value }
+    ensures bounds { IsStepCode book.new.handle.value.sizes.places result }
 {
     book.step(Step::Leave(place))
 }
@@ -110,6 +117,8 @@ pub extern "C" fn zaulinte_book_wait(
         book.new.handle.value result }
     ensures refused { RefusalKeeps book.old.handle.value book.new.handle.value result }
     ensures none { LacksBook book.old.live book.old book.new result }
+    ensures legal { HoldsSome book.old.live book.old.handle.value × HoldsSome book.new.live book.new.handle.value }
+    ensures bounds { IsStepCode book.new.handle.value.sizes.places result }
 {
     book.step(Step::Wait(place, condition, priority))
 }
@@ -128,6 +137,8 @@ pub extern "C" fn zaulinte_book_signal(
         book.new.handle.value result }
     ensures refused { RefusalKeeps book.old.handle.value book.new.handle.value result }
     ensures none { LacksBook book.old.live book.old book.new result }
+    ensures legal { HoldsSome book.old.live book.old.handle.value × HoldsSome book.new.live book.new.handle.value }
+    ensures bounds { IsStepCode book.new.handle.value.sizes.places result }
 {
     book.step(Step::Signal(place, condition))
 }
@@ -147,11 +158,13 @@ pub extern "C" fn zaulinte_book_signal_to(
         book.new.handle.value result }
     ensures refused { RefusalKeeps book.old.handle.value book.new.handle.value result }
     ensures none { LacksBook book.old.live book.old book.new result }
+    ensures legal { HoldsSome book.old.live book.old.handle.value × HoldsSome book.new.live book.new.handle.value }
+    ensures bounds { IsStepCode book.new.handle.value.sizes.places result }
 {
     let Some(book) = book.held().get_mut() else {
         return NO_BOOK;
     };
-    codes::signalled_to(book, place, condition, waiter)
+    book.signal_to(place, condition, waiter)
 }
 
 /// Lets `place` signal `condition`, one of Hoare's, as its last act. Returns the place that is inside then, or 64 if
@@ -168,6 +181,8 @@ pub extern "C" fn zaulinte_book_pass(
         book.new.handle.value result }
     ensures refused { RefusalKeeps book.old.handle.value book.new.handle.value result }
     ensures none { LacksBook book.old.live book.old book.new result }
+    ensures legal { HoldsSome book.old.live book.old.handle.value × HoldsSome book.new.live book.new.handle.value }
+    ensures bounds { IsStepCode book.new.handle.value.sizes.places result }
 {
     book.step(Step::Pass(place, condition))
 }
@@ -186,6 +201,8 @@ pub extern "C" fn zaulinte_book_notify(
         book.new.handle.value result }
     ensures refused { RefusalKeeps book.old.handle.value book.new.handle.value result }
     ensures none { LacksBook book.old.live book.old book.new result }
+    ensures legal { HoldsSome book.old.live book.old.handle.value × HoldsSome book.new.live book.new.handle.value }
+    ensures bounds { IsStepCode book.new.handle.value.sizes.places result }
 {
     book.step(Step::Notify(place, condition))
 }
@@ -204,6 +221,8 @@ pub extern "C" fn zaulinte_book_broadcast(
         book.new.handle.value result }
     ensures refused { RefusalKeeps book.old.handle.value book.new.handle.value result }
     ensures none { LacksBook book.old.live book.old book.new result }
+    ensures legal { HoldsSome book.old.live book.old.handle.value × HoldsSome book.new.live book.new.handle.value }
+    ensures bounds { IsStepCode book.new.handle.value.sizes.places result }
 {
     book.step(Step::Broadcast(place, condition))
 }
@@ -215,11 +234,13 @@ pub extern "C" fn zaulinte_book_now(_alloc: Global, book: &mut Held) -> u64
         → Holds book.new.live book.new.handle.value h
         × Tells h result }
     ensures none { LacksBook book.old.live book.old book.new result }
+    ensures legal { HoldsSome book.old.live book.old.handle.value × HoldsSome book.new.live book.new.handle.value }
+    ensures bounds { IsStepCode book.new.handle.value.sizes.places result }
 {
     let Some(book) = book.held().get_mut() else {
         return NO_BOOK;
     };
-    codes::inside(book)
+    codes::inside(book.book())
 }
 
 /// Returns the number of places, at most 64. Refused: 107 no book.
@@ -229,11 +250,13 @@ pub extern "C" fn zaulinte_book_places(_alloc: Global, book: &mut Held) -> u64
         → Holds book.new.live book.new.handle.value h
         × (result ≡ h.sizes.places) × (result ≤ 64) }
     ensures none { LacksBook book.old.live book.old book.new result }
+    ensures legal { HoldsSome book.old.live book.old.handle.value × HoldsSome book.new.live book.new.handle.value }
+    ensures bounds { IsAnswer 1 64 107 result }
 {
     let Some(book) = book.held().get_mut() else {
         return NO_BOOK;
     };
-    book.places() as u64
+    book.book().places() as u64
 }
 
 /// Returns the number of conditions, at most 8, Mesa conditions included. Refused: 107 no book.
@@ -243,11 +266,13 @@ pub extern "C" fn zaulinte_book_conditions(_alloc: Global, book: &mut Held) -> u
         → Holds book.new.live book.new.handle.value h
         × (result ≡ h.sizes.conditions) × (result ≤ 8) }
     ensures none { LacksBook book.old.live book.old book.new result }
+    ensures legal { HoldsSome book.old.live book.old.handle.value × HoldsSome book.new.live book.new.handle.value }
+    ensures bounds { IsAnswer 1 8 107 result }
 {
     let Some(book) = book.held().get_mut() else {
         return NO_BOOK;
     };
-    book.conditions() as u64
+    book.book().conditions() as u64
 }
 
 /// Returns 1 if `place` is outside, else 0. Refused, in this order: 107 no book, 101 no such place.
@@ -257,11 +282,13 @@ pub extern "C" fn zaulinte_book_outside(_alloc: Global, book: &mut Held, place: 
         → Holds book.new.live book.new.handle.value h
         × (result ≡ outside_code h place) }
     ensures none { LacksBook book.old.live book.old book.new result }
+    ensures legal { HoldsSome book.old.live book.old.handle.value × HoldsSome book.new.live book.new.handle.value }
+    ensures bounds { IsAnswer 0 1 101 result }
 {
     let Some(book) = book.held().get_mut() else {
         return NO_BOOK;
     };
-    codes::outside(book, place)
+    codes::outside(book.book(), place)
 }
 
 /// Returns 1 if a place waits on `condition`, else 0. Refused, in this order: 107 no book, 105 no such condition.
@@ -271,11 +298,13 @@ pub extern "C" fn zaulinte_book_queue(_alloc: Global, book: &mut Held, condition
         → Holds book.new.live book.new.handle.value h
         × (result ≡ queue_code h condition) }
     ensures none { LacksBook book.old.live book.old book.new result }
+    ensures legal { HoldsSome book.old.live book.old.handle.value × HoldsSome book.new.live book.new.handle.value }
+    ensures bounds { IsAnswer 0 1 105 result }
 {
     let Some(book) = book.held().get_mut() else {
         return NO_BOOK;
     };
-    codes::queue(book, condition)
+    codes::queue(book.book(), condition)
 }
 
 /// Returns 1 if a place waits on `condition`, and writes the priority of the place that a signal would resume to
@@ -294,11 +323,14 @@ pub extern "C" fn zaulinte_book_first(
         × (priority.new ≡ first_or h condition priority.old) }
     ensures none { book.old.live ≡ 0
         → (result ≡ 107) × (book.new ≡ book.old) × (priority.new ≡ priority.old) }
+    ensures legal { HoldsSome book.old.live book.old.handle.value × HoldsSome book.new.live book.new.handle.value }
+    ensures bounds { IsAnswer 0 1 105 result }
+    ensures kept { result ≢ 1 → priority.new ≡ priority.old }
 {
     let Some(book) = book.held().get_mut() else {
         return NO_BOOK;
     };
-    codes::first(book, condition, priority)
+    codes::first(book.book(), condition, priority)
 }
 
 /// Writes the number of places that wait on `condition` to `count`, and returns 0. Refused, in this order: 107 no book,
@@ -316,9 +348,12 @@ pub extern "C" fn zaulinte_book_count(
         × (count.new ≡ count_or h condition count.old) }
     ensures none { book.old.live ≡ 0
         → (result ≡ 107) × (book.new ≡ book.old) × (count.new ≡ count.old) }
+    ensures legal { HoldsSome book.old.live book.old.handle.value × HoldsSome book.new.live book.new.handle.value }
+    ensures bounds { IsAnswer 0 0 105 result }
+    ensures kept { result ≢ 0 → count.new ≡ count.old }
 {
     let Some(book) = book.held().get_mut() else {
         return NO_BOOK;
     };
-    codes::count(book, condition, count)
+    codes::count(book.book(), condition, count)
 }

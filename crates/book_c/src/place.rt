@@ -1,12 +1,12 @@
 //! The words in which C keeps a book, and a step on the book in them.
 ghost use Rattle.std.specs.Prelude.{◌≡◌, ◌≤◌};
-ghost use Rattle.book_c.specs.Codes.{LacksBook, RefusalKeeps, Steps};
+ghost use Rattle.book_c.specs.Codes.{IsStepCode, LacksBook, RefusalKeeps, Steps};
+ghost use Rattle.book_c.specs.Held.{HoldsSome};
 
-use crate::codes;
 use crate::codes::NO_BOOK;
 use crate::handle::Handle;
+use crate::legal_book::LegalBook;
 use c_handle::held;
-use wait_book::book::Book;
 use wait_book::steps::Step;
 
 /// The words in which C keeps a book, all bytes 0 at first. `live` is 1 while there is a book. It isn't `Drop`: a book
@@ -26,11 +26,11 @@ impl Held {
 
     // Returns the same words as those of a generic handle.
     #[inline(always)]
-    pub(crate) fn held(&mut self) -> &mut held::Held<Book>
+    pub(crate) fn held(&mut self) -> &mut held::Held<LegalBook>
         ensures* writes_back { sem 𝓛 (LendsWords self.entry result) }
         ensures value { result.now ≡ of_c self.old }
     {
-        unsafe { &mut *(self as *mut Held as *mut held::Held<Book>) }
+        unsafe { &mut *(self as *mut Held as *mut held::Held<LegalBook>) }
     }
 
     /// Does `step`, and returns the number of the place that is inside then, below 64, or `FREE`. Refused: `NO_BOOK`,
@@ -40,10 +40,12 @@ impl Held {
             self.new.handle.value result }
         ensures refused { RefusalKeeps self.old.handle.value self.new.handle.value result }
         ensures none { LacksBook self.old.live self.old self.new result }
+        ensures legal { HoldsSome self.old.live self.old.handle.value × HoldsSome self.new.live self.new.handle.value }
+        ensures bounds { IsStepCode self.new.handle.value.sizes.places result }
     {
         let Some(book) = self.held().get_mut() else {
             return NO_BOOK;
         };
-        codes::stepped(book, step)
+        book.step(step)
     }
 }

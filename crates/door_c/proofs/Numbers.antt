@@ -1,9 +1,10 @@
--- The number of a place that was given out.
-use Rattle.std.proofs.Common.{◌≡◌, ◌<◌, ℕ, List, ap, sym, ◌∙◌, subst}
+-- The numbers that C gets: of a place that was given out, and of a refusal to close.
+use Rattle.std.proofs.Common.{◌≡◌, ◌≢◌, ◌<◌, ℕ, List, Option, ap, sym, ◌∙◌, subst, arith}
 use Rattle.door_frame.specs.Places.{PlaceOut}
-use Rattle.door_place.specs.Places.{GaveOut, NumberIs, elsewhere, in_hand, outside, returned}
+use Rattle.door_place.specs.Places.{GaveOut, KeeperOf, NumberIs, elsewhere, in_hand, lacks_place, not_yet, outside, returned}
 use Rattle.door_place.specs.States.{Carried, NotOutside, number_of}
 use Rattle.door_place.specs.declared.state.State.{State}
+use Rattle.door_c.specs.KeeperSlots.{WasNotClosed, no_keeper, not_closed}
 
 -- a place that was given out is outside: so the returned number is its own, and below 64
 pub numbered : {old new : List (PlaceOut Carried)} {s : State} {n : ℕ} → GaveOut old new s → NumberIs s n
@@ -11,3 +12,9 @@ pub numbered : {old new : List (PlaceOut Carried)} {s : State} {n : ℕ} → Gav
 numbered g (outside o is same small) = (same ∙ ap number_of (sym is), small)
 numbered (in_hand o is rest) (elsewhere out same) = absurd (subst NotOutside is out)
 numbered (returned o is none) (elsewhere out same) = absurd (subst NotOutside is out)
+
+-- a refusal isn't 0
+pub not_done : {old : Option KeeperOf} {code : ℕ} → WasNotClosed old code → code ≢ 0
+not_done (no_keeper none is) zero = absurd (omega (arith, is, zero))
+not_done (not_closed k old (lacks_place lacks is)) zero = absurd (omega (arith, is, zero))
+not_done (not_closed k old (not_yet all is)) zero = absurd (omega (arith, is, zero))

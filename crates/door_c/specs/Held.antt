@@ -5,7 +5,6 @@ use Rattle.door_frame.specs.Places.{PlaceOut}
 use Rattle.door_place.specs.Places.{Acts, GaveNone, GaveOut, GivesBack, IsNew, KeeperOf, MadeNot, PlaceAt}
 use Rattle.door_place.specs.States.{Carried, IsState, number_of}
 use Rattle.door_place.specs.Deeds.{Deed}
-use Rattle.door_place.specs.declared.state.State.{State}
 use Rattle.door_place.specs.declared.state.State.TheVariants.{Outside}
 
 -- a new door is held (0); else there is none, as before, for the first reason that applies
@@ -19,14 +18,12 @@ pub data GaveHeld (old new : Option KeeperOf) (p : PlaceAt) (code : ℕ) : Type 
       → GaveOut k.outs l.outs p.state → IsState p.door p.state → code ≡ number_of p.state → code < 64
       → GaveHeld old new p code
 
--- the keeper is still there and gave no place out: no door is held (107), or as `GaveNone` states; or it gave out a
--- place for which there was no memory (111)
+-- the keeper is still there and gave no place out: no door is held (107), or as `GaveNone` states. So if memory was
+-- refused, each place that it had in hand still is
 pub data GaveNothing (old new : Option KeeperOf) (code : ℕ) : Type 0 where
   no_door : old ≡ None → new ≡ None → code ≡ 107 → GaveNothing old new code
   refused_by : (k l : KeeperOf) → old ≡ Some k → new ≡ Some l → l.door ≡ k.door → GaveNone k.outs l.outs code
       → GaveNothing old new code
-  no_room : (k l : KeeperOf) (s : State) → old ≡ Some k → new ≡ Some l → l.door ≡ k.door → GaveOut k.outs l.outs s
-      → code ≡ 111 → GaveNothing old new code
 
 -- the place is still held, at its door, and the act was done or refused
 pub record Acted (act : Deed) (old : PlaceAt) (live : ℕ) (new : PlaceAt) (code : ℕ) : Type 0 where

@@ -1,7 +1,7 @@
 -- What is left of a door at a slot.
 use Rattle.std.specs.Prelude.{◌≡◌, ◌<◌, ℕ, List, Option, Some, None}
 use Rattle.door_frame.specs.Places.{Closes, HasPlace, PlaceOut}
-use Rattle.door_place.specs.Places.{HasMore, KeeperOf, keeper_of}
+use Rattle.door_place.specs.Places.{HasMore, KeeperOf, NotClosed, keeper_of}
 use Rattle.door_place.specs.States.{Carried, any, calm}
 
 -- The door was closed with this word. All of its places were in hand, and one legal history left the word; it begins
@@ -9,6 +9,12 @@ use Rattle.door_place.specs.States.{Carried, any, calm}
 pub data WasClosed (old : Option KeeperOf) (value : ℕ) : Type 0 where
   closed : (k : KeeperOf) → old ≡ Some k → ((j : ℕ) → j < k.door.door.places → HasPlace j k.outs)
       → Closes calm any k.door.kinds k.door.door k.outs (record { value = value }) → WasClosed old value
+
+-- Why the door wasn't closed: it was closed before (107), or as `NotClosed` states: a place isn't in hand (112), or all
+-- are, and a give back hasn't returned (102).
+pub data WasNotClosed (old : Option KeeperOf) (code : ℕ) : Type 0 where
+  no_keeper : old ≡ None → code ≡ 107 → WasNotClosed old code
+  not_closed : (k : KeeperOf) → old ≡ Some k → NotClosed k.door.door.places k.outs code → WasNotClosed old code
 
 -- The door is still there, perhaps with more places in hand; or there was none.
 pub data Collected (old new : Option KeeperOf) : Type 0 where

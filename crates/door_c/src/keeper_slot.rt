@@ -1,7 +1,8 @@
 //! The keeper of a door, as a value that can be closed in place.
-ghost use Rattle.std.specs.Prelude.{◌≡◌, IfNone, IfSome, None};
-ghost use Rattle.door_c.specs.KeeperSlots.{Collected, WasClosed};
+ghost use Rattle.std.specs.Prelude.{◌≡◌, IfErr, IfOk, None, OnErr};
+ghost use Rattle.door_c.specs.KeeperSlots.{Collected, WasClosed, WasNotClosed};
 
+use door_place::codes::NOTHING_HELD;
 use door_place::keeper::Keeper;
 
 /// A keeper, until its door is closed.
@@ -21,18 +22,21 @@ impl KeeperSlot {
         }
     }
 
-    /// Closes the door if all of its places are in hand, and returns its word. Else returns `None`, and the keeper is
-    /// as it was.
-    pub fn close(&mut self) -> Option<u64>
-        ensures closed { IfSome result (λ v. (self.new.keeper ≡ None) × WasClosed self.old.keeper v) }
-        ensures kept { IfNone result (self.new.keeper ≡ self.old.keeper) }
+    /// Closes the door if all of its places are in hand, and returns its word. Else the keeper is as it was. Refused:
+    /// `NOTHING_HELD` after the door was closed, else as `Keeper::close`.
+    pub fn close(&mut self) -> Result<u64, u64>
+        ensures closed { IfOk result (λ v. (self.new.keeper ≡ None) × WasClosed self.old.keeper v) }
+        ensures kept { OnErr result (self.new.keeper ≡ self.old.keeper) }
+        ensures refused { IfErr result (λ code. WasNotClosed self.old.keeper code) }
     {
-        let keeper = self.keeper.take()?;
+        let Some(keeper) = self.keeper.take() else {
+            return Err(NOTHING_HELD);
+        };
         match keeper.close() {
-            Ok(value) => Some(value),
-            Err(keeper) => {
+            Ok(value) => Ok(value),
+            Err((keeper, code)) => {
                 self.keeper = Some(keeper);
-                None
+                Err(code)
             }
         }
     }

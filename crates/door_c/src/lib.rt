@@ -9,7 +9,7 @@ ghost use Rattle.std.specs.Prelude.{◌≡◌, ◌≢◌, ◌<◌, ◌≤◌};
 ghost use Rattle.hoare_law.specs.Sizes.{sizes_of};
 ghost use Rattle.door_place.specs.States.{AsksFirst, AsksQueue, Counts, Gets, where_is};
 ghost use Rattle.door_place.specs.Deeds as act;
-ghost use Rattle.door_c.specs.KeeperSlots.{Collected, WasClosed};
+ghost use Rattle.door_c.specs.KeeperSlots.{Collected, WasClosed, WasNotClosed};
 ghost use Rattle.door_c.specs.Held.{Acted, GaveHeld, GaveNothing, GivenBack, IsSame, Made};
 
 pub mod door;
@@ -19,7 +19,7 @@ pub mod place;
 
 use door::HeldDoor;
 use door_place::act::{Broadcast, Leave, Notify, Set, Signal, SignalTo, TryEnter, TryReturn, Wait};
-use door_place::codes::{DONE, IN_USE, IS_HELD, NO_MEMORY, NOTHING_HELD};
+use door_place::codes::{DONE, IS_HELD, NO_MEMORY, NOTHING_HELD};
 use door_place::keeper::Keeper;
 use hoare_law::event::Sizes;
 use keeper_slot::KeeperSlot;
@@ -64,8 +64,8 @@ pub extern "C" fn zaulinte_door_make(
 }
 
 /// Gives a place out, for a thread of its own, and returns its number, below 64. Refused, in this order: 108 `place`
-/// holds one already, 107 no door is held, 114 all places are taken, 111 an allocation failed: then the place is given
-/// back, if its slot isn't in use. A refusal leaves `place` as it was.
+/// holds one already, 107 no door is held, 114 all places are taken, 111 an allocation failed: then the place is still
+/// in hand. A refusal leaves `place` as it was.
 #[unsafe(no_mangle)]
 pub extern "C" fn zaulinte_door_give_out(
     alloc: Global,
@@ -91,18 +91,13 @@ pub extern "C" fn zaulinte_door_give_out(
     let Some(keeper) = &mut slot.keeper else {
         return NOTHING_HELD;
     };
-    let given = match keeper.give_out() {
+    let given = match keeper.give_out(alloc) {
         Ok(given) => given,
         Err(code) => return code,
     };
     let number = given.number();
-    match place.held().keep(alloc, given) {
-        Ok(()) => number,
-        Err(mut given) => {
-            given.give_back();
-            NO_MEMORY
-        }
-    }
+    place.held().put(given);
+    number
 }
 
 /// Gives a place back to its door, and returns 0: `place` then holds none. Refused, in this order: 107 none is held,
@@ -141,22 +136,24 @@ pub extern "C" fn zaulinte_door_collect(door: &mut HeldDoor) -> u64
 }
 
 /// Closes the door if all of its places are in hand, writes its word to `value`, and returns 0. Refused, in this order:
-/// 107 no door is held, 112 a place isn't in hand (it was given out, and not given back and collected), or a
-/// `zaulinte_door_give_back` in another thread hasn't returned; then the door is held as it was, and `value` stays as
+/// 107 no door is held, 112 a place isn't in hand (it was given out, and not given back and collected), 102 all are, but
+/// a `zaulinte_door_give_back` in another thread hasn't returned; then the door is held as it was, and `value` stays as
 /// it is.
 #[unsafe(no_mangle)]
 pub extern "C" fn zaulinte_door_close(alloc: Global, door: &mut HeldDoor, value: &mut u64) -> u64
     ensures closed { door.old.live ≡ 1 → result ≡ 0
         → (door.new.live ≡ 0) × WasClosed door.old.handle.value.keeper value.new }
-    ensures kept { door.old.live ≡ 1 → result ≢ 0 → (result ≡ 112) × (door.new.live ≡ 1)
+    ensures kept { door.old.live ≡ 1 → result ≢ 0 → (door.new.live ≡ 1)
         × (door.new.handle.value.keeper ≡ door.old.handle.value.keeper) × (value.new ≡ value.old) }
+    ensures refused { door.old.live ≡ 1 → result ≢ 0 → WasNotClosed door.old.handle.value.keeper result }
     ensures none { door.old.live ≡ 0 → (result ≡ 107) × (door.new ≡ door.old) × (value.new ≡ value.old) }
 {
     let Some(slot) = door.held().get_mut() else {
         return NOTHING_HELD;
     };
-    let Some(word) = slot.close() else {
-        return IN_USE;
+    let word = match slot.close() {
+        Ok(word) => word,
+        Err(code) => return code,
     };
     *value = word;
     if let Some(slot) = door.held().take(alloc) {

@@ -5,7 +5,7 @@ use Rattle.hoare_law.specs.Events.{opened}
 use Rattle.hoare_law.specs.Sizes.{kinds_of}
 use Rattle.wait_book.specs.Contents.{make_refusal}
 use Rattle.wait_book.specs.declared.steps.MakeRefused.TheVariants.{BadPlaces, BadConditions}
-use Rattle.door_frame.specs.Places.{IsOut, PlaceOut, places_from}
+use Rattle.door_frame.specs.Places.{HasPlace, IsOut, PlaceOut, places_from}
 use Rattle.hoare_law.specs.Growth.{Begins}
 use Rattle.baton_door.specs.StepDoors.{StepId}
 use Rattle.door_place.specs.declared.state.State.{State}
@@ -78,3 +78,15 @@ pub record HasMore (d : StepId) (old new : List (PlaceOut Carried)) : Type 0 whe
   pub more : List (PlaceOut Carried)
   pub of : All (IsOut calm any d.kinds d.door) more
   pub is : new ≡ old ++ more
+
+-- one of the first n places isn't in hand
+pub record LacksPlace (n : ℕ) (outs : List (PlaceOut Carried)) : Type 0 where
+  pub place : ℕ
+  pub below : place < n
+  pub lacks : HasPlace place outs → ⊥
+
+-- why the keeper of n places didn't close its door: a place isn't in hand (112); or all are, and a `Place` of the door
+-- still exists (102), as in a give back that hasn't returned
+pub data NotClosed (n : ℕ) (outs : List (PlaceOut Carried)) (code : ℕ) : Type 0 where
+  lacks_place : LacksPlace n outs → code ≡ 112 → NotClosed n outs code
+  not_yet : ((k : ℕ) → k < n → HasPlace k outs) → code ≡ 102 → NotClosed n outs code

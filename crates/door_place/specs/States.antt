@@ -51,6 +51,10 @@ number_of (Inside i) = i.place
 number_of (Away o) = o.place
 number_of Nowhere = 0
 
+abbrev pub IsOutside : State → Type 0
+IsOutside (Outside o) = ⊤
+IsOutside _ = ⊥
+
 abbrev pub NotOutside : State → Type 0
 NotOutside (Outside o) = ⊥
 NotOutside _ = ⊤

@@ -1,10 +1,12 @@
 //! A door with its places that are in hand: those that no thread has taken.
-ghost use Rattle.std.specs.Prelude.{◌≡◌, ◌⊎◌, ◌<◌, [], ℕ, IfOk, IfErr, true};
+ghost use Rattle.std.specs.Prelude.{◌≡◌, ◌⊎◌, ◌<◌, [], ℕ, IfOk, IfErr, MatchResult, true, false};
+ghost use Rattle.std.specs.Arc.{arc_value};
 ghost use Rattle.door_frame.specs.Places.{Closes, HasPlace};
-ghost use Rattle.door_place.specs.Places.{GaveNone, GaveOut, HasMore, IsNew, MadeNot};
+ghost use Rattle.door_place.specs.Places.{GaveNone, GaveOut, HasMore, IsNew, LacksPlace, MadeNot, NotClosed, place_at};
 ghost use Rattle.door_place.specs.States.{IsState, any, calm};
+ghost use Rattle.door_place.specs.declared.state.State.TheVariants.{Outside};
 
-use crate::codes::{BAD_CONDITIONS, BAD_PLACES, NO_MEMORY, NONE_LEFT};
+use crate::codes::{BAD_CONDITIONS, BAD_PLACES, IN_USE, NO_MEMORY, NONE_LEFT, NOT_NOW};
 use crate::moves::may_move;
 use crate::place::Place;
 use crate::shared::Shared;
@@ -39,7 +41,8 @@ impl Model for Keeper {
 
 /// Returns true if a place with this number is among `outs`.
 fn has(outs: &[Out], number: usize) -> bool
-    ensures { result ≡ true → HasPlace number outs.now }
+    ensures has { result ≡ true → HasPlace number outs.now }
+    ensures lacks { result ≡ false → HasPlace number outs.now → ⊥ }
 {
     for i in 0..outs.len() {
         if outs[i].number() == number {
@@ -51,7 +54,8 @@ fn has(outs: &[Out], number: usize) -> bool
 
 /// Returns true if all places with numbers below `places` are among `outs`.
 fn has_all(outs: &[Out], places: usize) -> bool
-    ensures { result ≡ true → (k : ℕ) → k < places → HasPlace k outs.now }
+    ensures all { result ≡ true → (k : ℕ) → k < places → HasPlace k outs.now }
+    ensures lacks { result ≡ false → LacksPlace places outs.now }
 {
     for number in 0..places {
         if !has(outs, number) {
@@ -59,6 +63,22 @@ fn has_all(outs: &[Out], places: usize) -> bool
         }
     }
     true
+}
+
+/// Returns a place of the shared door in a box. If an allocation fails, it returns `out`.
+fn boxed(alloc: Global, shared: &Arc<Shared>, out: Out) -> Result<Box<Place>, Out>
+    requires { IsState (arc_value shared.now) (Outside out) }
+    ensures { MatchResult result
+        (λ p. p.value ≡ place_at (arc_value shared.now) (Outside out))
+        (λ o. o ≡ out) }
+{
+    let Ok(shared) = Arc::try_clone(shared) else {
+        return Err(out);
+    };
+    match Box::new(alloc, Place::new(shared, out)) {
+        Ok(place) => Ok(place),
+        Err(failed) => Err(failed.value.into_outside()),
+    }
 }
 
 impl Keeper {
@@ -120,21 +140,23 @@ impl Keeper {
         }
     }
 
-    /// Gives a place out, for a thread of its own. If no place is in hand, it collects first. Refused, in this order:
-    /// `NONE_LEFT` if no place is in hand then, and `NO_MEMORY` if an allocation failed.
-    pub fn give_out(&mut self) -> Result<Place, u64>
+    /// Gives a place out, in a box, for a thread of its own. If no place is in hand, it collects first. Refused, in this
+    /// order: `NONE_LEFT` if no place is in hand then, and `NO_MEMORY` if an allocation failed: the place is still in
+    /// hand then.
+    pub fn give_out(&mut self, alloc: Global) -> Result<Box<Place>, u64>
         ensures door { self.new.door ≡ self.old.door }
-        ensures given_out { IfOk result (λ p. (p.door ≡ self.old.door) × GaveOut self.old.outs self.new.outs p.state) }
-        ensures of { IfOk result (λ p. IsState p.door p.state) }
+        ensures given_out { IfOk result (λ p. (p.value.door ≡ self.old.door)
+            × GaveOut self.old.outs self.new.outs p.value.state) }
+        ensures of { IfOk result (λ p. IsState p.value.door p.value.state) }
         ensures refused { IfErr result (λ code. GaveNone self.old.outs self.new.outs code) }
     {
         self.refill();
         let Some(out) = self.outs.pop() else {
             return Err(NONE_LEFT);
         };
-        match Arc::try_clone(&self.shared) {
-            Ok(shared) => Ok(Place::new(shared, out)),
-            Err(_) => {
+        match boxed(alloc, &self.shared, out) {
+            Ok(place) => Ok(place),
+            Err(out) => {
                 self.outs.push_reserved(out);
                 Err(NO_MEMORY)
             }
@@ -142,22 +164,23 @@ impl Keeper {
     }
 
     /// Closes the door if all of its places are in hand, and returns its word. One legal history left that word; it
-    /// begins with what each place knows, and no place did anything else in it. Else returns the keeper as it was. It
-    /// is also returned if a `Place` of this door still exists.
-    pub fn close(self) -> Result<u64, Keeper>
+    /// begins with what each place knows, and no place did anything else in it. Else returns the keeper as it was, and
+    /// why: `IN_USE` exactly if a place isn't in hand; `NOT_NOW` if all are, but a `Place` of this door still exists.
+    pub fn close(self) -> Result<u64, (Keeper, u64)>
         ensures all { IfOk result (λ v. (k : ℕ) → k < self.door.door.places → HasPlace k self.outs) }
         ensures closes { IfOk result (λ v. Closes calm any self.door.kinds self.door.door self.outs
             (record { value = v })) }
-        ensures same { IfErr result (λ k. k ≡ self) }
+        ensures same { IfErr result (λ e. e.0 ≡ self) }
+        ensures refused { IfErr result (λ e. NotClosed self.door.door.places self.outs e.1) }
     {
         let places = self.shared.door().sizes().places;
         if !has_all(&self.outs, places) {
-            return Err(self);
+            return Err((self, IN_USE));
         }
         let Keeper { shared, outs } = self;
         match Arc::try_unwrap(shared) {
             Ok(shared) => Ok(shared.into_door().close(outs).value),
-            Err(shared) => Err(Keeper { shared, outs }),
+            Err(shared) => Err((Keeper { shared, outs }, NOT_NOW)),
         }
     }
 }

@@ -4,7 +4,7 @@ ghost use Rattle.baton_door.specs.StepDoors.{StepId};
 ghost use Rattle.std.specs.Arc.{arc_value};
 ghost use Rattle.door_place.specs.Deeds as deeds;
 ghost use Rattle.door_place.specs.Places.{Acts, GivesBack, NumberIs, place_at};
-ghost use Rattle.door_place.specs.States.{IsState, Gets, Counts, AsksQueue, AsksFirst, where_is};
+ghost use Rattle.door_place.specs.States.{IsOutside, IsState, Gets, Counts, AsksQueue, AsksFirst, where_is};
 ghost use Rattle.door_place.specs.declared.state.State.TheVariants.{Outside};
 
 use crate::act::{self, Act};
@@ -73,6 +73,18 @@ impl Place {
             shared,
             state: State::Outside(out),
         })
+    }
+
+    /// Takes the place out, which is outside.
+    pub(crate) fn into_outside(self) -> Out
+        requires { IsOutside self.state }
+        ensures { self.state ≡ Outside result }
+    {
+        let Place { shared: _, state } = self;
+        let State::Outside(out) = state else {
+            unreachable!()
+        };
+        out
     }
 
     /// Does `act`, or refuses it, and returns the code.

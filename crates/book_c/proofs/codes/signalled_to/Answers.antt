@@ -6,4 +6,4 @@ use Rattle.book_c.proofs.codes.signalled_to.Goals as goal
 pub returns-in-Err-clause-of : goal.returns-in-Err-clause-of
 returns-in-Err-clause-of c = λ h o.
     was_refused c.in-Err.refused (c.in-Err.ensures.of h o)
-    (subst (λ (b : Contents). IsOf b h) (sym c.in-Err.ensures.err) o) c.refusal_code.ensures
+    (subst (λ (b : Contents). IsOf b h) (sym c.in-Err.ensures.err) o) c.refusal_code.ensures.is

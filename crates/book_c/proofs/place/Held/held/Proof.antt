@@ -22,7 +22,7 @@ use denote.Triple.Walked.{Stays, says, stay_dropped, walk_of, ends_at, Goes-spen
 use Rattle.core.proofs.alloc.Shapes.{after}
 use Rattle.std.proofs.raw_atomic.Walks.{proved}
 use Rattle.c_handle.specs.contracts.held.Held as generic
-use Rattle.wait_book.specs.contracts.book.Book as books
+use Rattle.book_c.specs.contracts.legal_book.LegalBook as books
 use Rattle.book_c.specs.Words.{of_c, to_c}
 use Rattle.book_c.specs.contracts.place.Held.{the_row as Words}
 use Rattle.book_c.specs.contracts.place.Held.held as f

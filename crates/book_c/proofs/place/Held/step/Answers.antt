@@ -6,6 +6,6 @@ use Rattle.book_c.proofs.place.Held.step.Goals as goal
 pub returns-clause-of : goal.returns-clause-of
 returns-clause-of c = λ h o. (
   c.in-Some.ensures.value.0,
-  c.stepped.ensures.of h (subst (λ (b : Contents). IsOf b h)
+  c.step.ensures.of h (subst (λ (b : Contents). IsOf b h)
       (sym (c.in-Some.ensures.value.1 ∙ ap (λ (s : generic.Held Contents). s.handle.value) c.held.ensures.value)) o.of),
 )

@@ -119,7 +119,8 @@ uint64_t zaulinte_door_notify(zaulinte_door_place *place, uint64_t condition);
  * woken for that: later acts return the notified places, one each. Refused as `notify`. */
 uint64_t zaulinte_door_broadcast(zaulinte_door_place *place, uint64_t condition);
 /* Lets the place return from its `wait` or its `signal` if the monitor is owed to it at this moment. Returns 64: the
- * place is inside. Refused: 107 `place` holds nothing, 113 the place isn't away, 102 the monitor isn't owed to it. */
+ * place is inside. Refused: 107 `place` holds nothing, 113 the place isn't away, 102 the monitor wasn't owed to it at
+ * some moment of the call. */
 uint64_t zaulinte_door_try_return(zaulinte_door_place *place);
 
 /* Writes the word that is kept in the monitor to *value, and returns 0. Refused: 107 `place` holds nothing, 104 the

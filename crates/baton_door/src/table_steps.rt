@@ -4,7 +4,9 @@ ghost use Rattle.hoare_law.specs.declared.event.History.{History};
 ghost use Rattle.hoare_law.specs.declared.event.Event.TheVariants as event;
 ghost use Rattle.wait_book.specs.Contents.{IsPlaceBelow};
 ghost use Rattle.door_frame.specs.Steps.{MayGive, MayNote, due};
-ghost use Rattle.door_frame.specs.Seats.{IsEmptyHanded, HasReleased, IsEntering, EntersWith, GoesOut, StaysIn};
+ghost use Rattle.door_frame.specs.Refusals.{NotOwed};
+ghost use Rattle.door_frame.specs.Seats.{IsEmptyHanded, HasReleased, IsEntering, IsRefused, EntersWith, GoesOut};
+ghost use Rattle.door_frame.specs.Seats.{StaysIn};
 ghost use Rattle.baton_door.specs.Entering.{IsOutside, IsAdmitted};
 
 use crate::rule::{Admit, Claim, DoorKey, DoorTable};
@@ -57,8 +59,8 @@ pub(crate) fn try_admit<D: MonitorData, K: DoorKey<D>>(
     Some(take_guarded(table, seat))
 }
 
-/// Tries once to get `place`, which waited or signalled, inside again, and takes the guarded box. Returns `None`, with
-/// the seat unchanged, if the compare-exchange doesn't find the monitor owed to `place`.
+/// Tries once to get `place`, which waited or signalled, inside again, and takes the guarded box. Returns `None` if the
+/// compare-exchange doesn't find the monitor owed to `place`: by it the place learns the history at that moment.
 #[inline]
 pub(crate) fn try_claim<D: MonitorData, K: DoorKey<D>>(
     table: &DoorTable<D, K>,
@@ -72,7 +74,7 @@ pub(crate) fn try_claim<D: MonitorData, K: DoorKey<D>>(
     ensures table { seat.new.table_id ≡ seat.old.table_id }
     ensures enters_with { IfSome result (λ guarded. EntersWith D.rest D.ready place (due place)
         seat.old.me guarded seat.new.me) }
-    ensures same { IfNone result (seat.new.me ≡ seat.old.me) }
+    ensures refused { IfNone result (IsRefused D.rest D.ready (NotOwed place) place seat.old.me seat.new.me) }
 {
     let mine = owed(place);
     if table

@@ -174,7 +174,7 @@ pub extern "C" fn zaulinte_door_try_enter(place: &mut HeldPlace) -> u64
 }
 
 /// Attempts to let the place return from its wait or its signal. Returns 64 if it is inside then, or 102 if the monitor
-/// isn't owed to it at this moment. Refused, in this order: 107 no place is held, 113 not away.
+/// wasn't owed to it at some moment of this call. Refused, in this order: 107 no place is held, 113 not away.
 #[unsafe(no_mangle)]
 pub extern "C" fn zaulinte_door_try_return(place: &mut HeldPlace) -> u64
     ensures acted { place.old.live ≡ 1

@@ -1,5 +1,5 @@
 -- A place enters from outside, or returns from a wait or a signal.
-use Rattle.std.proofs.Common.{◌≡◌, ℕ, true, Option, Some, None, refl, ap, sym, ◌∙◌, subst}
+use Rattle.std.proofs.Common.{◌≡◌, ℕ, true, List, Option, Some, None, refl, ap, sym, ◌∙◌, subst, append-nil}
 use Rattle.hoare_law.specs.declared.event.Sizes.{Sizes}
 use Rattle.hoare_law.specs.declared.event.Event.{Event}
 use Rattle.hoare_law.specs.declared.event.History.{History}
@@ -18,6 +18,7 @@ use Rattle.hoare_law.specs.Turns.{is_signal, turn}
 use Rattle.hoare_law.proofs.Entering.{own-last, turn-in, sizes-with, AddsLast-one, AddsTwo-one, finds-admit, finds-back}
 use Rattle.hoare_law.proofs.Entering.{finds-resume, finds-called}
 use Rattle.hoare_law.proofs.Events.{newest-push}
+use Rattle.hoare_law.proofs.Growth.{Begins-push, Begins-trans}
 use Rattle.hoare_law.proofs.Held.{is_inside}
 use Rattle.wait_book.specs.declared.steps.Next.TheVariants.{For}
 use Rattle.wait_book.specs.Contents.{Contents, IsOf, next_of}
@@ -28,6 +29,7 @@ use Rattle.door_frame.specs.Places.{PlaceId, DoorId, Entered, HandsTo, IsBack, I
 use Rattle.door_frame.specs.Places.{IsReturned, place_id_at}
 use Rattle.door_frame.specs.Places.{PlaceIn, PlaceOut, place_in}
 use Rattle.door_frame.specs.Steps.{SeatState, EnteredBy, awaited, due, due_by, due_from}
+use Rattle.door_frame.proofs.Refusals.{grows_none}
 
 module _ {D : Type 0} where
   -- a place returns from a wait or from a signal
@@ -82,6 +84,10 @@ module _ {D : Type 0} where
 
   pub is_due_by : (k : ℕ) (h f : History D) (b : Contents) (s : D) → Allowed h (due k f s) → IsDue k h (due k f) b s
   is_due_by k h f b s may = is_due k h (due k f) b s (comes_back k (awaited (newest (own k f.events)))) may
+
+  -- the event by which a place returns is the same by histories with the same events of that place
+  due_as : (k : ℕ) (f g : History D) → own k g.events ≡ own k f.events → (s : D) → due k g s ≡ due k f s
+  due_as k f g same s = ap (λ (es : List (Event D)). due_by k (newest es) s) same
 
   -- the event by which a place returns depends on its own last event: a Resume after a wait, a Back after a signal
   due_own : (f : History D) (k : ℕ) (e : Event D) (s : D) → place_of e ≡ k
@@ -158,15 +164,17 @@ module _ {D : Type 0} where
                 of = is_in t n o.front log (due n o.front y.state) y.state (place_id ∙ gone.of) gone.sized b.begins
                     b.stands (due_inside n last y.state) (due_mine n last y.state);
                 place = refl;
+                begins = Begins-trans b.begins (Begins-push log (due n o.front y.state));
                 resumed = λ f c p s was.
                     let w : Event D = Wait n c p s in
                     let e : Event D = Resume n c y.state in
-                    let which : due n o.front y.state ≡ e =
-                    ap (λ (g : History D). due n g y.state) was ∙ due_own f n w y.state refl in
+                    let known : own n o.front.events ≡ own n (with_event f w).events =
+                    was.adds ∙ append-nil (own n (with_event f w).events) in
+                    let which : due n o.front y.state ≡ e = due_as n (with_event f w) o.front known y.state ∙ due_own f n w y.state refl in
                     let stands : Stands rest ready (with_event log e) =
                     subst (λ (v : Event D). Stands rest ready (with_event log v)) which b.stands in
-                    let begins = subst (λ (g : History D). Begins g log) was b.begins in
-                    let same = b.own_are ∙ ap (λ (g : History D). own n g.events) was in
+                    let begins = Begins-trans was.begins b.begins in
+                    let same = b.own_are ∙ known in
                     subst
                     (λ (v : Event D). IsResumed rest ready kinds n f c p s (place_in t n (with_event log v) y.state))
                     (sym which)
@@ -179,13 +187,15 @@ module _ {D : Type 0} where
                     });
                 returned = λ f w signals mine was.
                     let e : Event D = Back n y.state in
+                    let known : own n o.front.events ≡ own n (with_event f w).events =
+                    was.adds ∙ append-nil (own n (with_event f w).events) in
                     let which : due n o.front y.state ≡ e =
-                    ap (λ (g : History D). due n g y.state) was ∙ due_own f n w y.state mine
+                    due_as n (with_event f w) o.front known y.state ∙ due_own f n w y.state mine
                     ∙ ap (λ (c : Option ℕ). due_from n c y.state) (not_awaited w signals) in
                     let stands : Stands rest ready (with_event log e) =
                     subst (λ (u : Event D). Stands rest ready (with_event log u)) which b.stands in
-                    let begins = subst (λ (g : History D). Begins g log) was b.begins in
-                    let same = b.own_are ∙ ap (λ (g : History D). own n g.events) was in
+                    let begins = Begins-trans was.begins b.begins in
+                    let same = b.own_are ∙ known in
                     subst (λ (u : Event D). IsReturned rest ready kinds n f w (place_in t n (with_event log u) y.state))
                     (sym which)
                     (record {
@@ -202,7 +212,8 @@ module _ {D : Type 0} where
       waited_back o i j c p place front back =
           subst
           (λ (k : ℕ). o.front ≡ with_event i.front (Wait k c p i.state)
-          → IsResumed rest ready kinds k i.front c p i.state j) place (back.resumed i.front c p i.state) front
+          → IsResumed rest ready kinds k i.front c p i.state j) place
+          (λ is. back.resumed i.front c p i.state (grows_none o.place is)) front
 
       -- both halves of a signal
       pub signalled_back : (o : PlaceOut D) (i j : PlaceIn D) (c : ℕ) → o.place ≡ i.place → HandsTo c i o.front
@@ -212,7 +223,7 @@ module _ {D : Type 0} where
           let e : Event D = Signal i.place c hands.goes_on i.state in
           let r =
           subst (λ (k : ℕ). IsReturned rest ready kinds k i.front e j) place
-          (back.returned i.front e refl (sym place) hands.front) in
+          (back.returned i.front e refl (sym place) (grows_none o.place hands.front)) in
           (resumed_one hands.goes_on hands.is_chosen r.front, r.rests)
 
       -- both halves of a signal to a place
@@ -224,5 +235,5 @@ module _ {D : Type 0} where
           let e : Event D = SignalTo i.place c w i.state in
           let r =
           subst (λ (k : ℕ). IsReturned rest ready kinds k i.front e j) place
-          (back.returned i.front e refl (sym place) front) in
+          (back.returned i.front e refl (sym place) (grows_none o.place front)) in
           (resumed_it waits r.front, r.rests)

@@ -3,6 +3,7 @@ pub mod Steps
 pub mod Seats
 pub mod Inside
 pub mod Releases
+pub mod Refusals
 pub mod Arrivals
 pub mod Notifications
 pub mod Close

@@ -40,6 +40,7 @@ use Rattle.door_frame.specs.Places.{HandedTo}
 use Rattle.door_frame.specs.Places.{signalled, place_id_at, place_in, place_out}
 use Rattle.door_frame.specs.Steps.{SeatState, Gives, MayGive}
 use Rattle.door_frame.proofs.Inside.{Holds}
+use Rattle.door_frame.proofs.Refusals.{grows_none}
 
 held_next : (t : Turn) (j : ℕ) → next_of t ≡ next.Held j → t ≡ Held j
 held_next Free j e = absurd (cc)
@@ -341,7 +342,7 @@ module _ {D : Type 0} where
         (sized_here (λ n. c < n.conditions) h small))
         (Owes-wait rest ready f k c p x.state h.within.is_inside
         (asked_here (λ j. rest j.state (joined (priorities j.front.events) c p)) h asked))
-        (waits f c p x.state refl) same is)
+        (waits f c p x.state (grows_none k refl)) same is)
 
     pub handed_over : (c : ℕ) (b : Contents) (who : Next) (z : PlaceId) (o : PlaceOut D)
         → Holds rest ready kinds d i t k f me x → IsHoare kinds.conditions kinds.mesa c
@@ -359,7 +360,7 @@ module _ {D : Type 0} where
         (sym r.goes_on)
         (went_off (Signal k c (place_of r.chosen_one) x.state) z o h
         (allowed_handing false c r.chosen_one h hoare r.is) (owes_handing false c r.chosen_one h r.is asked)
-        (signalled f (Signal k c (place_of r.chosen_one) x.state) refl refl refl) same)
+        (signalled f (Signal k c (place_of r.chosen_one) x.state) refl refl (grows_none k refl)) same)
         gone in record {
           of = out.of;
           place = asked_back (λ j. o.place ≡ j.place) h out.place;
@@ -376,7 +377,8 @@ module _ {D : Type 0} where
         let e = waiter_here c w h is_there in
         asked_back (λ j. Departs rest ready kinds d j.place (with_event j.front (SignalTo j.place c w j.state)) o) h
         (went_off (SignalTo k c w x.state) z o h (allowed_signal_to c w e.0 h hoare e.1)
-        (owes_signal_to c w e.0 h e.1 asked) (signalled f (SignalTo k c w x.state) refl refl refl) same is)
+        (owes_signal_to c w e.0 h e.1 asked) (signalled f (SignalTo k c w x.state) refl refl (grows_none k refl)) same
+        is)
 
     pub next_signal_to : (c w : ℕ) (b : Contents) (who : Next) (z : PlaceId) (o : PlaceOut D)
         → Holds rest ready kinds d i t k f me x → IsWaiting c i.front.events w

@@ -40,7 +40,7 @@ use Rattle.door_frame.specs.declared.view.SeatView.TheVariants.{Unopened, Openin
 use Rattle.door_frame.specs.Rule.{Tokens, Cells, Agrees, Lies, OpenInvariant, TableInvariant, raw, lent, runs}
 use Rattle.door_frame.proofs.Arrivals.{not_awaited}
 use Rattle.door_frame.specs.Steps.{SeatState, due, due_by, due_from, begins, opens, gives_as, Gives, notes_as, Notes}
-use Rattle.door_frame.specs.Steps.{EntryStepWith, Known}
+use Rattle.door_frame.specs.Steps.{EntryStepOr, EntryStepWith, Refused, Known}
 use Rattle.door_frame.specs.Steps.{Learns, learns}
 use Rattle.door_frame.specs.Views.{knows, sole, alone, all_know, Each, EachOf, Without, Apart, ApartOf, knowing}
 use Rattle.door_frame.specs.Views.{places_behind, first_place, no_places}
@@ -310,18 +310,67 @@ module _ {D : Type 0} (Initial : Bool → List ℕ → Type 0) (WordsFit : Histo
     pub others : (j : ℕ) → j ≢ k → tokens' j ≡ tokens j
     pub words_fit : WordsFit (with_event log e) tokens' (set ws i (g (get_or ws i 0)))
 
-  -- the place k, which knew f, enters if the word is a hit, and takes the slot
-  pub comes_ok : (n slots id k i : ℕ) (f : History D) (o p : Option Token) (event : D → Event D) (g : ℕ → ℕ)
-      (Hit : ℕ → Type 0) (Also : History D → Type 0)
+  -- a step of the seat id on the word i, which becomes y, by which no slot moves and Missed holds of the seat
+  abbrev pub Misses : ℕ → Cells D → ℕ → ℕ → ℕ → (SeatState D → Type 0) → Type 0
+  Misses n s i id y Missed = (w : SeatView D) × K n (stepped s i y id [] w keeps) × Missed (w, [])
+
+  -- a step that changes no word may leave the seat as it was
+  pub stays_as : (n : ℕ) (s : Cells D) (i id y : ℕ) (v : SeatView D) → K n s → get_elem? s.views id ≡ some v
+      → y ≡ get_or s.words i 0 → Misses n s i id y (λ m. m ≡ (v, []))
+  stays_as n s i id y v kept at same =
+      (v, subst (λ (z : ℕ). K n (stepped s i z id [] v keeps)) (sym same) (unmoved n s i id v [] at kept), refl)
+
+  -- or the place k of the seat, which knew f, learns the log
+  pub learns_log : (n : ℕ) (s : Cells D) (r : R n s) (i id y k : ℕ) (f : History D) (Cause : History D → Type 0)
+      → get_elem? s.views id ≡ some (alone k f) → y ≡ get_or s.words i 0 → Cause r.log
+      → Misses n s i id y (Refused rest ready Cause k f)
+  learns_log n s r i id y k f Cause at same cause =
+      let fit = (r.fronts id (alone k f) at).0 in let w : SeatView D = alone k r.log in (
+        w,
+        subst (λ (z : List ℕ). K n record { words = z; homes = s.homes; views = set s.views id w })
+            (sym (ap (λ (z : ℕ). set s.words i z) same ∙ set-get_or s.words i 0)) (runs (record {
+              log = r.log;
+              owner = r.owner;
+              tokens = r.tokens;
+              one_slot = r.one_slot;
+              sized = r.sized;
+              fronts = agree_all n s r id k f r.log r.log None None r.tokens at
+                  (record {
+                    below = fit.below;
+                    owned = fit.owned;
+                    begins = Begins-refl r.log;
+                    own_are = refl;
+                    token_is = fit.token_is;
+                  })
+                  (λ j t ne q. q);
+              apart = apart_sole n s r id k r.log None;
+              stands = r.stands;
+              words_fit = r.words_fit;
+              home = r.home;
+              out = r.out;
+            })),
+        record {
+          log = r.log;
+          me_is = refl;
+          begins = fit.begins;
+          own_are = fit.own_are;
+          stands = r.stands;
+          cause = cause;
+        },
+      )
+
+  -- the place k, which knew f, enters if the word is a hit, and takes the slot; else Missed holds of its seat
+  pub comes_or : (n slots id k i : ℕ) (f : History D) (o p : Option Token) (event : D → Event D) (g : ℕ → ℕ)
+      (Hit : ℕ → Type 0) (Missed : SeatState D → Type 0) (Also : History D → Type 0)
       → ((x : ℕ) → Dec (Hit x))
-      → ((log : History D) (tokens : Tokens) (ws : List ℕ) → k < n → WordsFit log tokens ws → (Hit (get_or ws i 0) → ⊥)
-      → g (get_or ws i 0) ≡ get_or ws i 0)
+      → ((s : Cells D) (r : R n s) → get_elem? s.views id ≡ some (sole k f o) → (Hit (get_or s.words i 0) → ⊥)
+      → Misses n s i id (g (get_or s.words i 0)) Missed)
       → ((log : History D) (tokens : Tokens) (ws : List ℕ) → Stands rest ready log → log.sizes.places ≡ n → k < n
       → own k log.events ≡ own k f.events → tokens k ≡ o → WordsFit log tokens ws
       → Hit (get_or ws i 0) → BringsIn k i p g Also log tokens ws (event (latest_data log)))
       → Allows (K n) slots id (sole k f o, []) i g
-      (λ r m'. EntryStepWith rest ready p Hit Also k f event (sole k f o, []) r m')
-  comes_ok n slots id k i f o p event g Hit Also test missed brings s kept wide at small =
+      (λ r m'. EntryStepOr rest ready p Hit Missed Also k f event r m')
+  comes_or n slots id k i f o p event g Hit Missed Also test missed brings s kept wide at small =
       let r = running n s kept id (knows k f o ∷ []) at in let x : ℕ = get_or s.words i 0 in
       let v : SeatView D = sole k f o in
       let deep = r.one_slot in let fit = (r.fronts id v at).0 in dite (test x)
@@ -354,18 +403,27 @@ module _ {D : Type 0} (Initial : Bool → List ℕ → Type 0) (WordsFit : Histo
           ),
         ),
       ))
-      (λ miss. (
-        v,
-        keeps,
-        tt,
-        subst (λ (y : ℕ). K n (stepped s i y id [] v keeps))
-            (sym (missed r.log r.tokens s.words fit.below r.words_fit miss)) (unmoved n s i id v [] at kept),
-        ((λ _. refl), λ hit. absurd (miss hit)),
-      ))
+      (λ miss. let t = missed s r at miss in (t.0, keeps, tt, t.1, ((λ _. t.2), λ hit. absurd (miss hit))))
     where
       not_given_up : (l : Guarded D) (h : History D) → turn h.events ≡ Held k → IsGivenUp (turn h.events)
           → (x : Guarded D) × (get_elem? (set s.homes 0 none) 0 ≡ some (some (Some x))) × Lies h x
       not_given_up l h held up = absurd (subst IsGivenUp held up)
+
+  -- the same, if a place that doesn't enter knows what it knew
+  pub comes_ok : (n slots id k i : ℕ) (f : History D) (o p : Option Token) (event : D → Event D) (g : ℕ → ℕ)
+      (Hit : ℕ → Type 0) (Also : History D → Type 0)
+      → ((x : ℕ) → Dec (Hit x))
+      → ((log : History D) (tokens : Tokens) (ws : List ℕ) → k < n → WordsFit log tokens ws → (Hit (get_or ws i 0) → ⊥)
+      → g (get_or ws i 0) ≡ get_or ws i 0)
+      → ((log : History D) (tokens : Tokens) (ws : List ℕ) → Stands rest ready log → log.sizes.places ≡ n → k < n
+      → own k log.events ≡ own k f.events → tokens k ≡ o → WordsFit log tokens ws
+      → Hit (get_or ws i 0) → BringsIn k i p g Also log tokens ws (event (latest_data log)))
+      → Allows (K n) slots id (sole k f o, []) i g
+      (λ r m'. EntryStepWith rest ready p Hit Also k f event (sole k f o, []) r m')
+  comes_ok n slots id k i f o p event g Hit Also test missed =
+      comes_or n slots id k i f o p event g Hit (λ m. m ≡ (sole k f o, [])) Also test
+      (λ s r at miss. stays_as n s i id (g (get_or s.words i 0)) (sole k f o) (runs r) at
+      (missed r.log r.tokens s.words (r.fronts id (sole k f o) at).0.below r.words_fit miss))
 
   lies_of : (f : History D) (e : Event D) (x : Guarded D) → data_of e ≡ x.state → IsOf x.book
       (dataless (with_event f e))

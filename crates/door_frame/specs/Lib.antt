@@ -6,3 +6,4 @@ pub mod Seats
 pub mod Releases
 pub mod Notifications
 pub mod Making
+pub mod Refusals

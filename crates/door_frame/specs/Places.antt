@@ -10,12 +10,13 @@ use Rattle.hoare_law.specs.declared.event.Event.TheVariants.{Admit, Wait, Signal
 use Rattle.hoare_law.specs.declared.turn.Turn.TheVariants.{Held}
 use Rattle.hoare_law.specs.Events.{own, place_of, latest_data, with_event}
 use Rattle.hoare_law.specs.Turns.{is_signal, turn, outside}
-use Rattle.hoare_law.specs.Growth.{Begins, AddsLast, AddsTwo}
+use Rattle.hoare_law.specs.Growth.{Begins, Grows, AddsLast, AddsTwo}
 use Rattle.hoare_law.specs.Lawful.{Rest, Ready, Stands}
 use Rattle.hoare_law.specs.Priorities.{priorities, taken, left_by}
 use Rattle.hoare_law.specs.Waiting.{Chooses, priority_of, wait_by}
 use Rattle.wait_book.specs.declared.steps.Next.{Next}
 use Rattle.wait_book.specs.declared.steps.Next.TheVariants.{For}
+use Rattle.door_frame.specs.Refusals.{NotOwed}
 
 -- a door: its table, how many places it has, and what they park on, in their order
 pub record DoorId : Type 0 where
@@ -101,10 +102,12 @@ module _ {D : Type 0} where
     pub is_chosen : Chooses c i.front.events goes_on
     pub front : g ≡ with_event i.front (Signal i.place c goes_on i.state)
 
-  -- the last event of the place k, by which it released the monitor and is away: a wait, or a signal e
+  -- the last event of the place k, by which it released the monitor and is away: a wait, or a signal e. After it g has
+  -- events of other places alone
   pub data Released (k : ℕ) (g : History D) : Type 0 where
-    waits : (f : History D) (c p : ℕ) (s : D) → g ≡ with_event f (Wait k c p s) → Released k g
-    signalled : (f : History D) (e : Event D) → is_signal e ≡ true → place_of e ≡ k → g ≡ with_event f e → Released k g
+    waits : (f : History D) (c p : ℕ) (s : D) → Grows k [] (with_event f (Wait k c p s)) g → Released k g
+    signalled : (f : History D) (e : Event D) → is_signal e ≡ true → place_of e ≡ k → Grows k [] (with_event f e) g
+        → Released k g
 
   module _ (rest : Rest D) (ready : Ready D) (kinds : Kinds) where
     -- the place outside is of the door: it parks where it is woken, and what it knows is legal and lawful, and has it
@@ -131,8 +134,8 @@ module _ {D : Type 0} where
       pub rests : rest i.state (priorities i.front.events)
       pub front : AddsLast o.front (Admit o.place i.state) i.front
 
-    -- the place that is away is of the door: it parks where it is woken, and what it knows is legal and lawful, and
-    -- ends with its wait or its signal
+    -- the place that is away is of the door: it parks where it is woken, and what it knows is legal and lawful, and the
+    -- last event of the place there is its wait or its signal
     pub record IsAway (door : DoorId) (o : PlaceOut D) : Type 0 where
       pub of : o.place_id ≡ place_id_at door o.place
       pub sized : o.front.sizes ≡ sizes_at kinds door.places
@@ -151,14 +154,23 @@ module _ {D : Type 0} where
       pub front : AddsTwo f e (Back k i.state) i.front
       pub rests : rest i.state (priorities i.front.events)
 
-    -- the place o, which was away, is inside again as i: it returned from its last event
+    -- the place o, which was away, is inside again as i: it returned from its last event, and i begins with what o knew
     pub record IsBack (door : DoorId) (o : PlaceOut D) (i : PlaceIn D) : Type 0 where
       pub of : IsIn door i
       pub place : i.place ≡ o.place
-      pub resumed : (f : History D) (c p : ℕ) (s : D) → o.front ≡ with_event f (Wait o.place c p s)
+      pub begins : Begins o.front i.front
+      pub resumed : (f : History D) (c p : ℕ) (s : D) → Grows o.place [] (with_event f (Wait o.place c p s)) o.front
           → IsResumed o.place f c p s i
       pub returned : (f : History D) (e : Event D) → is_signal e ≡ true → place_of e ≡ o.place
-          → o.front ≡ with_event f e → IsReturned o.place f e i
+          → Grows o.place [] (with_event f e) o.front → IsReturned o.place f e i
+
+    -- the place o, which was away, is still away, as p: it learned events of other places, and a history in which the
+    -- monitor isn't owed to it
+    pub record IsStillAway (door : DoorId) (o p : PlaceOut D) : Type 0 where
+      pub of : IsAway door p
+      pub place : p.place ≡ o.place
+      pub front : Grows o.place [] o.front p.front
+      pub cause : NotOwed o.place p.front
 
     -- one legal and lawful history of all places of the door ends with these data
     pub record Closes (door : DoorId) (os : List (PlaceOut D)) (s : D) : Type 0 where

@@ -2,13 +2,14 @@
 use Rattle.std.specs.Prelude.{◌≡◌, ℕ, true, [], ◌∷◌, None}
 use Rattle.hoare_law.specs.declared.event.Event.{Event}
 use Rattle.hoare_law.specs.declared.event.History.{History}
-use Rattle.hoare_law.specs.Events.{with_event}
+use Rattle.hoare_law.specs.Events.{own, with_event}
 use Rattle.hoare_law.specs.Internal.WithoutData.{dataless}
+use Rattle.hoare_law.specs.Growth.{Begins}
 use Rattle.hoare_law.specs.Lawful.{Rest, Ready}
 use Rattle.hoare_law.specs.Turns.{turn, IsGivenUp, outside}
 use Rattle.wait_book.specs.Contents.{Contents, IsOf}
 use Rattle.door_frame.specs.declared.guarded.Guarded.{Guarded}
-use Rattle.door_frame.specs.Steps.{SeatState, EnteredBy}
+use Rattle.door_frame.specs.Steps.{SeatState, EnteredBy, Refused}
 use Rattle.door_frame.specs.Views.{alone}
 
 module _ {D : Type 0} where
@@ -34,6 +35,16 @@ module _ {D : Type 0} where
       → Type 0
   EntersWith rest ready k event me x me' = (f : History D) → IsEmptyHanded k f me
       → EnteredBy rest ready k f (event f) x None me'
+
+  -- the place k, which was outside or away, was refused and learned a history of which Cause holds: its seat was me and
+  -- is now me'
+  abbrev pub IsRefused : Rest D → Ready D → (History D → Type 0) → ℕ → SeatState D → SeatState D → Type 0
+  IsRefused rest ready Cause k me me' = (f : History D) → IsEmptyHanded k f me → Refused rest ready Cause k f me'
+
+  -- the place k is still outside or away, and may have learned events of other places: its seat was me and is now me'
+  abbrev pub StaysAway : ℕ → SeatState D → SeatState D → Type 0
+  StaysAway k me me' = (f : History D) → IsEmptyHanded k f me
+      → (g : History D) × IsEmptyHanded k g me' × Begins f g × (own k g.events ≡ own k f.events)
 
   -- the place k, which was inside, stayed inside by the event: its seat was me and is now me'
   abbrev pub StaysIn : ℕ → (History D → Event D) → SeatState D → SeatState D → Type 0

@@ -109,18 +109,34 @@ module _ {D : Type 0} where
   EnteredBy rest ready = EnteredWith rest ready None
 
   -- the contract of a step by which the place k may enter: if the number found is a hit, k enters by the event and
-  -- takes the slot, with the token t, and Also holds of the log before; else nothing happened
+  -- takes the slot, with the token t, and Also holds of the log before; else Missed holds of the seat
+  abbrev pub EntryStepOr : Rest D → Ready D → Option Token → (ℕ → Type 0) → (SeatState D → Type 0)
+      → (History D → Type 0) → ℕ → History D → (D → Event D) → ℕ → SeatState D → Type 0
+  EntryStepOr rest ready t Hit Missed Also k f event r m' =
+      ((Hit r → ⊥) → Missed m')
+      × (Hit r → (x : Guarded D) × (c : EnteredWith rest ready t k f event x (Some x) m') × Also c.log)
+
+  -- the same if nothing happens when the number found isn't a hit
   abbrev pub EntryStepWith : Rest D → Ready D → Option Token → (ℕ → Type 0) → (History D → Type 0) → ℕ → History D
       → (D → Event D) → SeatState D → ℕ → SeatState D → Type 0
   EntryStepWith rest ready t Hit Also k f event m r m' =
-      ((Hit r → ⊥) → m' ≡ m)
-      × (Hit r → (x : Guarded D) × (c : EnteredWith rest ready t k f event x (Some x) m') × Also c.log)
+      EntryStepOr rest ready t Hit (λ n. n ≡ m) Also k f event r m'
 
   -- the same of a place that then has no token
   abbrev pub EntryStep : Rest D → Ready D → (ℕ → Type 0) → (History D → Type 0) → ℕ → History D → (D → Event D)
       → SeatState D → ℕ
       → SeatState D → Type 0
   EntryStep rest ready = EntryStepWith rest ready None
+
+  -- the place k, which knew f, was refused: it learned the log, of which Cause holds
+  pub record Refused (rest : Rest D) (ready : Ready D) (Cause : History D → Type 0) (k : ℕ) (f : History D)
+      (me : SeatState D) : Type 0 where
+    pub log : History D
+    pub me_is : me ≡ (alone k log, [])
+    pub begins : Begins f log
+    pub own_are : own k log.events ≡ own k f.events
+    pub stands : Stands rest ready log
+    pub cause : Cause log
 
   -- the history begins with what the place t knew, and has no other events of it
   abbrev pub Known : History D → PlaceView D → Type 0

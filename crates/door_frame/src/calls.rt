@@ -11,7 +11,8 @@ ghost use Rattle.hoare_law.specs.declared.turn.Turn.TheVariants as turns;
 ghost use Rattle.hoare_law.specs.Turns.{turn};
 ghost use Rattle.wait_book.specs.Contents.{IsOf, next_of, priorities_on};
 ghost use Rattle.door_frame.specs.Notifications.{IsCounted, Noted, after_notification, called_on};
-ghost use Rattle.door_frame.specs.Places.{IsOut, IsIn, IsAway, IsBack, Handed, HandedTo, HandsTo, place_id, place_in};
+ghost use Rattle.door_frame.specs.Places.{IsOut, IsIn, IsAway, IsBack, IsStillAway, Handed, HandedTo, HandsTo};
+ghost use Rattle.door_frame.specs.Places.{place_id, place_in};
 ghost use Rattle.door_frame.specs.Steps.{EnteredBy, due};
 
 use crate::guarded::GuardedBox;
@@ -232,7 +233,8 @@ pub fn begin_signal_to<D: MonitorData, T: RawMonitor<D>, S: Parking>(
 }
 
 /// Does the second half of `Monitor::wait` and of `Monitor::signal` if the monitor is owed to the place at this moment:
-/// the place is inside again. Else returns the place unchanged. Never blocks.
+/// the place is inside again. Else returns the place, still away: it has learned the history at some moment of this call
+/// at which the monitor wasn't owed to it. Never blocks.
 #[inline]
 pub fn try_return<D: MonitorData, T: RawMonitor<D>, S: Parking>(
     door: &T,
@@ -241,7 +243,8 @@ pub fn try_return<D: MonitorData, T: RawMonitor<D>, S: Parking>(
     requires { IsAway D.rest D.ready (T.kinds door.now) (T.id door.now) away }
     ensures back { IfOk result
         (λ i. IsBack D.rest D.ready (T.kinds door.now) (T.id door.now) away i) }
-    ensures same { IfErr result (λ g. g ≡ away) }
+    ensures refused { IfErr result
+        (λ g. IsStillAway D.rest D.ready (T.kinds door.now) (T.id door.now) away g) }
 {
     let (mut seat, place, sleeper) = away.into_parts();
     match door.try_claim(&mut seat, place) {

@@ -9,7 +9,8 @@ ghost use Rattle.wait_book.specs.Contents.{IsPlaceBelow};
 ghost use Rattle.door_frame.specs.Making.{AreParts, IsMadeOf};
 ghost use Rattle.door_frame.specs.Places.{DoorId, Entered, IsOut, HasPlace, Closes};
 ghost use Rattle.door_frame.specs.Steps.{MayGive, MayNote, due};
-ghost use Rattle.door_frame.specs.Seats.{IsEmptyHanded, IsEntering, EntersWith, GoesOut, StaysIn};
+ghost use Rattle.door_frame.specs.Refusals.{NotOwed};
+ghost use Rattle.door_frame.specs.Seats.{IsEmptyHanded, IsEntering, EntersWith, GoesOut, IsRefused, StaysIn};
 ghost use Rattle.door_frame.specs.Releases.{event_of};
 ghost use Rattle.door_frame.specs.Notifications.{event_of_notification};
 
@@ -52,8 +53,8 @@ pub trait RawMonitor<D: MonitorData> {
             seat.old.me guarded seat.new.me) }
         ensures same { IfNone result (seat.new.me ≡ seat.old.me) };
 
-    /// Lets the place return if the monitor is owed to it at this moment, and takes the guarded box; else the seat is
-    /// unchanged. Never blocks.
+    /// Lets the place return if the monitor is owed to it at this moment, and takes the guarded box. Else the place
+    /// learns the history at some moment of this call at which the monitor wasn't owed to it. Never blocks.
     fn try_claim(&self, seat: &mut DoorSeat<D>, place: usize) -> Option<GuardedBox<D>>
         requires table { seat.old.table_id ≡ (id self.now).table }
         requires small { place < (id self.now).places }
@@ -61,7 +62,7 @@ pub trait RawMonitor<D: MonitorData> {
         ensures table { seat.new.table_id ≡ seat.old.table_id }
         ensures enters_with { IfSome result (λ guarded. EntersWith D.rest D.ready place (due place)
             seat.old.me guarded seat.new.me) }
-        ensures same { IfNone result (seat.new.me ≡ seat.old.me) };
+        ensures refused { IfNone result (IsRefused D.rest D.ready (NotOwed place) place seat.old.me seat.new.me) };
 
     /// Releases the monitor as `how` says: puts the guarded box back, and then writes that `next` resumes. A door that
     /// wakes its places then wakes that place, and the result shows it.

@@ -13,7 +13,7 @@ use Rattle.hoare_law.specs.Sizes.{IsHoare, IsMesa, sizes_of}
 use Rattle.hoare_law.specs.Turns.{turn}
 use Rattle.hoare_law.specs.Waiting.{IsWaiting}
 use Rattle.wait_book.specs.Contents.{IsPlaceBelow, next_of}
-use Rattle.door_frame.specs.Places.{PlaceIn, PlaceOut, IsAway, IsBack, IsIn, IsOut, HandsTo, with_state}
+use Rattle.door_frame.specs.Places.{PlaceIn, PlaceOut, IsAway, IsBack, IsIn, IsOut, IsStillAway, HandsTo, with_state}
 use Rattle.baton_door.specs.StepDoors.{StepId}
 use Rattle.door_place.specs.Codes.{code_of}
 use Rattle.door_place.specs.declared.state.State.{State}
@@ -166,12 +166,13 @@ pub data Sets (old : State) (value : ℕ) (new : State) (code : ℕ) : Type 0 wh
       → Sets old value new code
   not_inside : NotInside old → new ≡ old → code ≡ 104 → Sets old value new code
 
--- an attempt to return: the place is inside again, back from its wait or its signal (64); it isn't its turn (102); it
--- is not away (113)
+-- an attempt to return: the place is inside again, back from its wait or its signal (64); it is still away, and learned
+-- a history in which the monitor isn't owed to it (102); it is not away (113)
 pub data TriesToReturn (d : StepId) (old new : State) (code : ℕ) : Type 0 where
   returned : (o : PlaceOut Carried) (i : PlaceIn Carried) → old ≡ Away o → new ≡ Inside i → code ≡ 64
       → IsBack calm any d.kinds d.door o i → TriesToReturn d old new code
-  not_now : (o : PlaceOut Carried) → old ≡ Away o → new ≡ old → code ≡ 102 → TriesToReturn d old new code
+  not_now : (o p : PlaceOut Carried) → old ≡ Away o → new ≡ Away p → IsStillAway calm any d.kinds d.door o p → code ≡ 102
+      → TriesToReturn d old new code
   not_away : NotAway old → new ≡ old → code ≡ 113 → TriesToReturn d old new code
 
 -- the word that the place has in hand (0); it isn't inside (104)

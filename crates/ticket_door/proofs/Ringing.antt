@@ -18,7 +18,8 @@ use Rattle.wait_book.specs.Contents.{times}
 use Rattle.wait_book.specs.declared.steps.Next.TheVariants as next
 use Rattle.door_frame.specs.declared.guarded.Guarded.{Guarded}
 use Rattle.door_frame.specs.Rule.{Cells, Tokens, TableInvariant}
-use Rattle.door_frame.specs.Steps.{SeatState, Gives, gives_as, due}
+use Rattle.door_frame.specs.Refusals.{NotOwed}
+use Rattle.door_frame.specs.Steps.{SeatState, Gives, Refused, gives_as, due}
 use Rattle.door_frame.specs.Views.{alone}
 use Rattle.door_frame.proofs.Steps as frame
 use Rattle.hoare_law.specs.Admissions.{admissions}
@@ -83,13 +84,15 @@ module _ {D : Type 0} (first n : ℕ) where
     takes_bell_ok slots id k f st =
         frame.told_as K slots id (alone k f, []) (bell_at k) (λ _. 0) _ (takes_bell rest ready st (alone k f, []))
         (λ r m c j g is. let q = frame.alone_is k j f g [] [] is in
-        subst (λ (p : ℕ × History D). TakesBellAt rest ready p.0 p.1 (alone k f, []) r m) (λ i. (q.0 i, q.1 i)) c)
-        (frame.comes_ok (Initial first n) (WordsFit first n) rest ready kinds n slots id k (bell_at k) f None None (due
+        subst (λ (p : ℕ × History D). TakesBellAt rest ready p.0 p.1 r m) (λ i. (q.0 i, q.1 i)) c)
+        (frame.comes_or (Initial first n) (WordsFit first n) rest ready kinds n slots id k (bell_at k) f None None (due
         k f)
-        (λ _. 0) (λ r. r ≡ 1) (λ log. Unit {0})
+        (λ _. 0) (λ r. r ≡ 1) (Refused rest ready (NotOwed k) k f) (λ log. Unit {0})
         (λ r. ℕ_discrete r 1)
-        (λ log tokens ws small t miss. let b = t.bells k small in
-        sym (b ∙ bell_value_else (turn log.events) k (λ one. miss (b ∙ one))))
+        (λ s r at miss. let b = r.words_fit.bells k (r.fronts id (alone k f) at).0.below in
+        frame.learns_log (Initial first n) (WordsFit first n) rest ready kinds n s r (bell_at k) id 0 k f (NotOwed k) at
+        (sym (b ∙ bell_value_else (turn r.log.events) k (λ one. miss (b ∙ one))))
+        (λ owed. miss (b ∙ (rings_due k (turn r.log.events) (for_next (turn r.log.events) k owed)).here)))
         (λ log tokens ws stands places small same has t hit. let is = bell_value_due (turn log.events) k
         (sym (t.bells k small) ∙ hit) in let r = rings_due k (turn log.events) is in
         let e = frame.enters_due rest ready k log f stands same is in

@@ -1,10 +1,12 @@
 -- The contracts of the steps that only this door has: of the step, the seat before, the number found and the seat
 -- after.
-use Rattle.std.specs.Prelude.{◌≡◌, ℕ, ◌+◌, ◌*◌, ◌%◌, ◌^◌, ◌<◌, ◌≤◌, [], ◌∷◌, Some}
+use Rattle.std.specs.Prelude.{◌≡◌, ℕ, ◌+◌, ◌*◌, ◌%◌, ◌^◌, ◌<◌, ◌≤◌, [], ◌∷◌, Some, None}
 use Rattle.hoare_law.specs.declared.event.History.{History}
 use Rattle.hoare_law.specs.declared.event.Event.TheVariants.{Admit}
 use Rattle.hoare_law.specs.Lawful.{Rest, Ready}
-use Rattle.door_frame.specs.Steps.{SeatState, StepContract, EntryStep, EntryStepWith, Learns, due}
+use Rattle.door_frame.specs.Refusals.{NotOwed}
+use Rattle.door_frame.specs.Steps.{SeatState, StepContract, EntryStep, EntryStepOr, EntryStepWith, Learns, Refused}
+use Rattle.door_frame.specs.Steps.{due}
 use Rattle.door_frame.specs.Views.{alone, asking, trying, knows}
 use Rattle.door_frame.specs.declared.view.Token.TheVariants.{Ticket, Gate}
 use Rattle.ticket_door.specs.Tries.{Reopened}
@@ -53,9 +55,10 @@ module _ {D : Type 0} where
   abbrev pub opens_gate : StepContract D
   opens_gate st m r m' = Reopened m m'
 
-  -- a place takes its bell
-  abbrev pub TakesBellAt : Rest D → Ready D → ℕ → History D → SeatState D → ℕ → SeatState D → Type 0
-  TakesBellAt rest ready k f = EntryStep rest ready (λ r. r ≡ 1) (λ log. Unit {0}) k f (due k f)
+  -- a place takes its bell; if the bell wasn't rung, the place learns a history in which the monitor isn't owed to it
+  abbrev pub TakesBellAt : Rest D → Ready D → ℕ → History D → ℕ → SeatState D → Type 0
+  TakesBellAt rest ready k f =
+      EntryStepOr rest ready None (λ r. r ≡ 1) (Refused rest ready (NotOwed k) k f) (λ log. Unit {0}) k f (due k f)
 
   abbrev pub takes_bell : Rest D → Ready D → StepContract D
-  takes_bell rest ready st m r m' = (k : ℕ) (f : History D) → m ≡ (alone k f, []) → TakesBellAt rest ready k f m r m'
+  takes_bell rest ready st m r m' = (k : ℕ) (f : History D) → m ≡ (alone k f, []) → TakesBellAt rest ready k f r m'

@@ -57,7 +57,8 @@ impl<D: MonitorData> RawMonitor<D> for RawTicketDoor<D> {
         Some(take_guarded(table, seat))
     }
 
-    /// Swaps the bell of `place` to `SILENT`, once. Returns `None` if it wasn't rung.
+    /// Swaps the bell of `place` to `SILENT`, once. Returns `None` if it wasn't rung: by the swap the place learns the
+    /// history at that moment.
     #[inline]
     fn try_claim(&self, seat: &mut DoorSeat<D>, place: usize) -> Option<GuardedBox<D>> {
         let table = &self.table;

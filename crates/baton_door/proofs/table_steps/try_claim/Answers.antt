@@ -26,7 +26,5 @@ returns-then-compare_exchange-mine-clause-enters_with g c = λ f is.
     let t = (c.compare_exchange.ensures.2 c.args.place f is).1 c.if-compare_exchange-mine.true in
     took D.rest D.ready t.1 c.take_guarded.ensures.taken c.take_guarded.ensures.empty
 
-pub returns-clause-same : goal.returns-clause-same
-returns-clause-same g c =
-    let away = c.requires.away in
-    (c.compare_exchange.ensures.2 c.args.place away.0 away.1).0 c.if-compare_exchange-mine.false
+pub returns-clause-refused : goal.returns-clause-refused
+returns-clause-refused g c = λ f is. (c.compare_exchange.ensures.2 c.args.place f is).0 c.if-compare_exchange-mine.false

@@ -21,3 +21,8 @@ returns-in-Err-clause-front g c =
     subst
     (λ (j : PlaceIn g.row.D.Denot). Signals inside.place c.args.condition inside.state j.state inside.front j.front
     false) (sym same) (nobody_waited none refl refl)
+
+pub returns-in-Ok-clause-rest : goal.returns-in-Ok-clause-rest
+returns-in-Ok-clause-rest g c = λ _.
+    let away = c.in-Ok.ensures in
+    (signalled_back _ c.args.inside _ c.args.condition away.place away.front c.come_back.ensures).1

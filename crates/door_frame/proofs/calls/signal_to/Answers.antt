@@ -17,3 +17,9 @@ returns-in-Err-clause-front g c =
     (λ (j : PlaceIn g.row.D.Denot). SignalsTo inside.place c.args.condition c.args.waiter inside.state j.state
     inside.front j.front false)
     (sym c.in-Err.ensures.same) (no_waiter c.in-Err.ensures.no_waiter refl refl)
+
+pub returns-in-Ok-clause-rest : goal.returns-in-Ok-clause-rest
+returns-in-Ok-clause-rest g c = λ _.
+    let away = c.in-Ok.ensures in
+    (signalled_to_back _ c.args.inside _ c.args.condition c.args.waiter away.place away.front away.some
+    c.come_back.ensures).1

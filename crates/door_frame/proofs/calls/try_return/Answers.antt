@@ -1,6 +1,6 @@
 use Rattle.std.proofs.Common.{◌∙◌}
-use Rattle.door_frame.specs.Places.{place_out}
 use Rattle.door_frame.proofs.Arrivals.{came_back}
+use Rattle.door_frame.proofs.Refusals.{still_away}
 use Rattle.door_frame.proofs.Seats.{away_as, place_id_on}
 use Rattle.door_frame.proofs.calls.try_return.Goals as goal
 
@@ -24,7 +24,7 @@ returns-in-Some g c =
           came_back c.args.away _ _ c.requires (place_id_on g.S.Parking.at _ c.in-Some.ensures.table ∙ parts.0) parts.1
           came
           (c.return_with.ensures _ came);
-      same = tt;
+      refused = tt;
     }
 
 -- if the place didn't return
@@ -32,11 +32,12 @@ returns-in-Some g c =
 pub of_parts-requires : goal.of_parts-requires
 of_parts-requires g c =
     let parts = c.into_parts-seat.ensures in
-    (c.args.away.front, c.in-None.ensures.same ∙ away_as parts.1 parts.2)
+    let r = c.in-None.ensures.refused c.args.away.front (away_as parts.1 parts.2) in
+    (r.log, r.me_is)
 
-pub returns-in-None-clause-same : goal.returns-in-None-clause-same
-returns-in-None-clause-same g c =
+pub returns-in-None-clause-refused : goal.returns-in-None-clause-refused
+returns-in-None-clause-refused g c =
     let parts = c.into_parts-seat.ensures in
-    c.of_parts.ensures c.args.away.front (c.in-None.ensures.same ∙ away_as parts.1 parts.2)
-    ∙ (λ i. place_out ((place_id_on g.S.Parking.at _ c.in-None.ensures.table ∙ parts.0) i) (parts.1 i)
-    c.args.away.front)
+    let r = c.in-None.ensures.refused c.args.away.front (away_as parts.1 parts.2) in
+    still_away c.args.away _ _ c.requires (place_id_on g.S.Parking.at _ c.in-None.ensures.table ∙ parts.0) parts.1 r
+    (c.of_parts.ensures r.log r.me_is)

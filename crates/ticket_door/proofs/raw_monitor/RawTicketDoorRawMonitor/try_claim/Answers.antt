@@ -35,6 +35,5 @@ returns-then-swap-eq-RUNG-clause-enters_with g c = λ f is.
     let t = (c.swap.ensures.2 c.args.place f is).1 c.if-swap-eq-RUNG.true in
     took D.rest D.ready t.1 c.take_guarded.ensures.taken c.take_guarded.ensures.empty
 
-pub returns-clause-same : goal.returns-clause-same
-returns-clause-same g c =
-    let away = c.requires.away in (c.swap.ensures.2 c.args.place away.0 away.1).0 c.if-swap-eq-RUNG.false
+pub returns-clause-refused : goal.returns-clause-refused
+returns-clause-refused g c = λ f is. (c.swap.ensures.2 c.args.place f is).0 c.if-swap-eq-RUNG.false

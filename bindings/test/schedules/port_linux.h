@@ -19,7 +19,8 @@ static struct wait_queue table[QUEUES]; /* all words share one, or the queue is 
 #define in_hardirq() false
 #define raw_smp_processor_id() 0
 #define cpu_relax() ((void)0)
-#define might_sleep() ((void)0)
+#define ZAULINTE_MODULE_H /* bindings/linux/module.h isn't read */
+#define zaulinte_may_sleep() ((void)0)
 #define smp_mb() atomic_thread_fence(memory_order_seq_cst)
 
 static struct wait_queue *__var_waitqueue(const void *var) { return &table[(uintptr_t)var / 64 % QUEUES]; }

@@ -10,6 +10,7 @@ ghost use Rattle.hoare_law.specs.Priorities.{nobody};
 ghost use Rattle.wait_book.specs.Contents.{IsPlaceBelow, make_refusal};
 ghost use Rattle.door_frame.specs.Places.{Closes, HasPlace, IsOut, places_from};
 ghost use Rattle.door_frame.specs.Steps.{MayGive, MayNote};
+ghost use Rattle.door_frame.specs.Refusals.{NotFree};
 ghost use Rattle.door_frame.specs.Seats.{GoesOut, StaysIn};
 ghost use Rattle.door_frame.specs.Releases.{event_of};
 ghost use Rattle.door_frame.specs.Notifications.{event_of_notification};
@@ -150,6 +151,8 @@ impl<D: MonitorData> RawMonitor<D> for StepDoor<D> {
     ghost id = { λ d. d.door };
 
     ghost kinds = { λ d. d.kinds };
+
+    ghost refuses = { λ d. NotFree };
 
     type Shown = ();
 

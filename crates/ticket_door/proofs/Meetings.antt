@@ -9,7 +9,7 @@ use Rattle.door_frame.specs.Places.{PlaceId, DoorId, PlaceOut, IsOut, IsInHistor
 use Rattle.door_frame.specs.Seats.{IsEmptyHanded}
 use Rattle.door_frame.specs.Steps.{SeatState, Known, Learns}
 use Rattle.door_frame.specs.Views.{alone, knows, both_places, places_behind, first_place}
-use Rattle.door_frame.proofs.Releases.{told_out}
+use Rattle.door_frame.proofs.Refusals.{told_out}
 use Rattle.ticket_door.specs.Meeting.{Meets}
 
 module _ {D : Type 0} where

@@ -8,6 +8,7 @@ ghost use Rattle.hoare_law.specs.Events.{opened};
 ghost use Rattle.hoare_law.specs.Sizes.{kinds_of};
 ghost use Rattle.hoare_law.specs.Priorities.{nobody};
 ghost use Rattle.wait_book.specs.Contents.{IsPlaceBelow, make_refusal};
+ghost use Rattle.door_frame.specs.Meeting.{Meets};
 ghost use Rattle.door_frame.specs.Places.{Closes, HasPlace, IsOut, places_from};
 ghost use Rattle.door_frame.specs.Steps.{MayGive, MayNote};
 ghost use Rattle.door_frame.specs.Refusals.{NotFree};
@@ -21,6 +22,7 @@ use crate::table_steps;
 use crate::word::FREE;
 use door_frame::guarded::GuardedBox;
 use door_frame::making::{closed_as, deal_by_caller, vacant};
+use door_frame::meeting;
 use door_frame::notification::Notification;
 use door_frame::place::Outside;
 use door_frame::raw_monitor::RawMonitor;
@@ -108,6 +110,23 @@ impl<D: MonitorData> StepDoor<D> {
         ensures few { (result.places ≤ 64) × (result.conditions ≤ 8) × (result.mesa ≤ result.conditions) }
     {
         self.sizes
+    }
+
+    /// Lets `a` and `b`, two places outside, meet, and returns them in this order. Afterwards both know one history. It
+    /// begins with what each of them knew, and has no further event of either.
+    pub fn meet(
+        &self,
+        a: Outside<D, ByCaller>,
+        b: Outside<D, ByCaller>,
+    ) -> (Outside<D, ByCaller>, Outside<D, ByCaller>)
+        requires a { IsOut D.rest D.ready self.now.kinds self.now.door a }
+        requires b { IsOut D.rest D.ready self.now.kinds self.now.door b }
+        ensures a { IsOut D.rest D.ready self.now.kinds self.now.door result.0 }
+        ensures b { IsOut D.rest D.ready self.now.kinds self.now.door result.1 }
+        ensures places { (result.0.place ≡ a.place) × (result.1.place ≡ b.place) }
+        ensures met { Meets a b result.0 result.1 }
+    {
+        meeting::meet(&self.table, a, b)
     }
 
     /// Takes the door apart and returns the data. `outs` are all of its places, in any order.

@@ -84,7 +84,7 @@ uint64_t zaulinte_door_collect(zaulinte_door *door);
 uint64_t zaulinte_door_close(zaulinte_door *door, uint64_t *value);
 
 /* Lets the place enter if the monitor is free at this moment. Returns 64: the place is inside. Refused: 107 `place`
- * holds nothing, 103 the place isn't outside, 102 the monitor isn't free. */
+ * holds nothing, 103 the place isn't outside, 102 the monitor wasn't free at some moment of the call. */
 uint64_t zaulinte_door_try_enter(zaulinte_door_place *place);
 /* Lets the place leave. Returns the place to wake (below 64), or 64 if there is none: the monitor is free then, and a
  * thread that waits to enter may be woken. Refused: 107 `place` holds nothing, 104 the place isn't inside. */

@@ -8,7 +8,7 @@ ghost use Rattle.door_frame.specs.Places.{Closes, Entered, HasPlace, IsOut, IsWo
 ghost use Rattle.door_frame.specs.Seats.{GoesOut, StaysIn};
 ghost use Rattle.door_frame.specs.Releases.{event_of};
 ghost use Rattle.door_frame.specs.Notifications.{event_of_notification};
-ghost use Rattle.any_door.specs.Doors.{id_of};
+ghost use Rattle.any_door.specs.Doors.{id_of, refuses_at};
 
 use crate::door::RawAnyDoor;
 use door_frame::guarded::GuardedBox;
@@ -26,6 +26,8 @@ impl<D: MonitorData> RawMonitor<D> for RawAnyDoor<D> {
     ghost id = { λ d. id_of d };
 
     ghost kinds = { λ d. kinds_of D.CONDITIONS D.MESA };
+
+    ghost refuses = { λ d h. refuses_at d h };
 
     type Shown = Option<Woken>;
 

@@ -1,2 +1,3 @@
 pub mod Words
 pub mod Steps
+pub mod Attempts

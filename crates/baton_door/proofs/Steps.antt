@@ -2,8 +2,7 @@
 use Rattle.std.proofs.Common.{◌≡◌, ◌≢◌, ℕ, ◌+◌, ◌<◌, eqb, true, false, List, [], ◌∷◌, get_or, set, length, length-set}
 use Rattle.std.proofs.Common.{get_or-set_same, Some, None, refl, sym, ap, ◌∙◌}
 use Rattle.std.proofs.Common.{subst, arith, eq-eqb, ne_eqb}
-use mathlib.Core.Option.{none, some}
-use lib.ListN.{get_elem?}
+use mathlib.Core.Option.{none}
 use native.Mathlib.Decide.{ℕ_discrete}
 use prog.Atomic.{either}
 use Rattle.atomic_table.specs.Table.{step, Allows}
@@ -21,8 +20,8 @@ use Rattle.wait_book.specs.declared.steps.Next.{Next}
 use Rattle.wait_book.specs.Contents.{IsOf}
 use Rattle.door_frame.specs.declared.guarded.Guarded.{Guarded}
 use Rattle.door_frame.specs.declared.view.SeatView.TheVariants.{Unopened, Opening}
-use Rattle.door_frame.specs.Refusals.{NotOwed}
-use Rattle.door_frame.specs.Rule.{Cells, OpenInvariant, Tokens, TableInvariant, runs}
+use Rattle.door_frame.specs.Refusals.{NotFree, NotOwed}
+use Rattle.door_frame.specs.Rule.{Cells, Tokens, TableInvariant}
 use Rattle.door_frame.specs.Steps.{SeatState, Gives, Notes, Refused, begins, opens, gives_as, notes_as, due}
 use Rattle.door_frame.specs.Views.{alone}
 use Rattle.door_frame.proofs.Steps as frame
@@ -99,35 +98,32 @@ module _ {D : Type 0} where
         subst (λ (z : Kinds). Allows K slots id m 0 (λ _. 0) (λ _. opens z (step slots 0 0 0 none) m 0)) (sym same)
         (opens_at slots id x m is at_rest (subst (λ (z : Kinds). IsOf x.book (opened (sizes_at z n) tt)) same book))
 
-    -- place k enters by the event if the state word is as expected; else the step changes no word, and Missed holds of
-    -- the seat
+    -- place k enters by the event if the state word is as expected; else the step changes no word, and k learns the
+    -- log, of which Cause holds
     comes_at : (slots id k expected : ℕ) (f : History D) (event : ℕ → History D → D → Event D)
-        (Missed : ℕ → History D → SeatState D → SeatState D → Type 0) (m : SeatState D)
+        (Cause : ℕ → History D → Type 0) (m : SeatState D)
         → m ≡ (alone k f, [])
-        → ((s : Cells D) (r : OpenInvariant Initial WordsFit rest ready kinds n s)
-        → get_elem? s.views id ≡ some (alone k f) → word_of (turn r.log.events) ≢ expected
-        → taken_at expected (get_or s.words 0 0) ≡ get_or s.words 0 0
-        → frame.Misses Initial WordsFit rest ready kinds n s 0 id (taken_at expected (get_or s.words 0 0))
-        (Missed k f (alone k f, [])))
+        → ((log : History D) → word_of (turn log.events) ≢ expected → Cause k log)
         → ((log : History D) → Stands rest ready log → k < log.sizes.places → own k log.events ≡ own k f.events
         → word_of (turn log.events) ≡ expected
         → IsGivenUp (turn log.events) × frame.Enters rest ready k log (event k f (latest_data log)))
-        → Allows K slots id m 0 (taken_at expected) (comes rest ready event Missed (step slots 0 expected 1 none) m)
-    comes_at slots id k expected f event Missed m at misses enters =
+        → Allows K slots id m 0 (taken_at expected) (comes rest ready event Cause (step slots 0 expected 1 none) m)
+    comes_at slots id k expected f event Cause m at missed enters =
         subst
         (λ (p : SeatState D). Allows K slots id p 0 (taken_at expected)
-        (comes rest ready event Missed (step slots 0 expected 1 none) p))
+        (comes rest ready event Cause (step slots 0 expected 1 none) p))
         (sym at)
         (frame.told_as K slots id me 0 (taken_at expected) _
-        (comes rest ready event Missed (step slots 0 expected 1 none) me)
+        (comes rest ready event Cause (step slots 0 expected 1 none) me)
         (λ r m' c j g is.
         let q = frame.alone_is k j f g [] [] is in
-        subst (λ (p : ℕ × History D). ComesAt expected rest ready event Missed p.0 p.1 me r m') (λ i. (q.0 i, q.1 i)) c)
+        subst (λ (p : ℕ × History D). ComesAt expected rest ready event Cause p.0 p.1 r m') (λ i. (q.0 i, q.1 i)) c)
         (frame.comes_or Initial WordsFit rest ready kinds n slots id k 0 f None None (event k f) (taken_at expected)
-        (λ r. r ≡ expected) (Missed k f me) (λ log. Unit {0})
+        (λ r. r ≡ expected) (Refused rest ready (Cause k) k f) (λ log. Unit {0})
         (λ r. ℕ_discrete r expected)
-        (λ s r here miss. misses s r here (λ same. miss (r.words_fit.word ∙ same))
-        (taken_at-miss expected (get_or s.words 0 0) miss)) brings))
+        (λ s r here miss. frame.learns_log Initial WordsFit rest ready kinds n s r 0 id
+        (taken_at expected (get_or s.words 0 0)) k f (Cause k) here (taken_at-miss expected (get_or s.words 0 0) miss)
+        (missed r.log (λ same. miss (r.words_fit.word ∙ same)))) brings))
       where
         me : SeatState D
         me = (alone k f, [])
@@ -152,12 +148,11 @@ module _ {D : Type 0} where
                   (rewritten log h tokens ws 1 (ap word_of e.1.inside) t);
             }
 
-    -- a place that is outside enters if it is the turn of no place
+    -- a place that is outside enters if it is the turn of no place; else it learns the history
     pub admits_at : (slots id k : ℕ) (f : History D) (m : SeatState D) → m ≡ (alone k f, []) → outside k f.events ≡ true
         → Allows K slots id m 0 (taken_at 0) (admits rest ready (step slots 0 0 1 none) m)
-    admits_at slots id k f m is out = comes_at slots id k 0 f (λ j g. Admit j) (λ j g l l'. l' ≡ l) m is
-        (λ s r at no same. frame.stays_as Initial WordsFit rest ready kinds n s 0 id (taken_at 0 (get_or s.words 0 0))
-        (alone k f) (runs r) at same)
+    admits_at slots id k f m is out = comes_at slots id k 0 f (λ j g. Admit j) (λ j. NotFree) m is
+        (λ log no free. no (ap word_of free))
         (λ log stands below same w.
         let free = word_of-free (turn log.events) w in (
           frame.given_up_free (turn log.events) free,
@@ -167,10 +162,8 @@ module _ {D : Type 0} where
     -- a place returns if the monitor is owed to it; else it learns the history
     pub claims_at : (slots id k : ℕ) (f : History D) (m : SeatState D) (w : ℕ) → m ≡ (alone k f, []) → w ≡ k + 2
         → Allows K slots id m 0 (taken_at w) (claims rest ready (step slots 0 w 1 none) m)
-    claims_at slots id k f m w is mine = comes_at slots id k w f due (λ j g l. Refused rest ready (NotOwed j) j g) m is
-        (λ s r at no same. frame.learns_log Initial WordsFit rest ready kinds n s r 0 id
-        (taken_at w (get_or s.words 0 0)) k f (NotOwed k) at same
-        (λ next. no (sym (word_of-next (turn r.log.events)) ∙ ap word_of_next next ∙ sym mine)))
+    claims_at slots id k f m w is mine = comes_at slots id k w f due NotOwed m is
+        (λ log no next. no (sym (word_of-next (turn log.events)) ∙ ap word_of_next next ∙ sym mine))
         (λ log stands below same t.
         let due_to = word_of-due (turn log.events) k (t ∙ mine) in
         (frame.given_up_due k (turn log.events) due_to, frame.enters_due rest ready k log f stands same due_to))

@@ -6,27 +6,24 @@ use Rattle.hoare_law.specs.declared.event.Event.{Event}
 use Rattle.hoare_law.specs.declared.event.History.{History}
 use Rattle.hoare_law.specs.declared.event.Event.TheVariants.{Admit}
 use Rattle.hoare_law.specs.Lawful.{Rest, Ready}
-use Rattle.door_frame.specs.Refusals.{NotOwed}
+use Rattle.door_frame.specs.Refusals.{NotFree, NotOwed}
 use Rattle.door_frame.specs.Steps.{SeatState, StepContract, EntryStepOr, Refused, due}
 use Rattle.door_frame.specs.Views.{alone}
 
 module _ {D : Type 0} where
   -- if the step found the expected value, the place k enters, which adds the event to the history, and its seat then
-  -- has access to the slot; else Missed holds of the seat
-  abbrev pub ComesAt : ℕ → Rest D → Ready D → (ℕ → History D → D → Event D)
-      → (ℕ → History D → SeatState D → SeatState D → Type 0) → ℕ → History D → SeatState D → ℕ → SeatState D → Type 0
-  ComesAt expected rest ready event Missed k f m =
-      EntryStepOr rest ready None (λ r. r ≡ expected) (Missed k f m) (λ log. Unit {0}) k f (event k f)
+  -- has access to the slot; else k learned the log, of which Cause holds
+  abbrev pub ComesAt : ℕ → Rest D → Ready D → (ℕ → History D → D → Event D) → (ℕ → History D → Type 0) → ℕ
+      → History D → ℕ → SeatState D → Type 0
+  ComesAt expected rest ready event Cause k f =
+      EntryStepOr rest ready None (λ r. r ≡ expected) (Refused rest ready (Cause k) k f) (λ log. Unit {0}) k f (event k f)
 
-  abbrev pub comes : Rest D → Ready D → (ℕ → History D → D → Event D)
-      → (ℕ → History D → SeatState D → SeatState D → Type 0) → StepContract D
-  comes rest ready event Missed st m r m' =
-      (k : ℕ) (f : History D) → m ≡ (alone k f, []) → ComesAt st.first rest ready event Missed k f m r m'
+  abbrev pub comes : Rest D → Ready D → (ℕ → History D → D → Event D) → (ℕ → History D → Type 0) → StepContract D
+  comes rest ready event Cause st m r m' =
+      (k : ℕ) (f : History D) → m ≡ (alone k f, []) → ComesAt st.first rest ready event Cause k f r m'
 
-  -- a place that isn't admitted: its seat is unchanged
   abbrev pub admits : Rest D → Ready D → StepContract D
-  admits rest ready = comes rest ready (λ k f. Admit k) (λ k f m m'. m' ≡ m)
+  admits rest ready = comes rest ready (λ k f. Admit k) (λ k. NotFree)
 
-  -- a place that doesn't return learns a history in which the monitor isn't owed to it
   abbrev pub claims : Rest D → Ready D → StepContract D
-  claims rest ready = comes rest ready due (λ k f m. Refused rest ready (NotOwed k) k f)
+  claims rest ready = comes rest ready due NotOwed

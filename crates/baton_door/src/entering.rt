@@ -6,7 +6,7 @@ ghost use Rattle.hoare_law.specs.Growth.{AddsLast};
 ghost use Rattle.hoare_law.specs.Priorities.{priorities};
 ghost use Rattle.hoare_law.specs.Sizes.{kinds_of};
 ghost use Rattle.door_frame.specs.Places.{IsIn, IsOut};
-ghost use Rattle.baton_door.specs.Entering.{IsOutside, IsAdmitted};
+ghost use Rattle.baton_door.specs.Entering.{IsOutside, IsAdmitted, StaysOut};
 
 use crate::door::RawBatonDoor;
 use crate::place::{DoorIn, DoorOut};
@@ -27,7 +27,7 @@ impl<D: MonitorData> RawBatonDoor<D> {
         requires table { seat.old.table_id ≡ self.now.table }
         requires outside { IsOutside seat.old.me }
         ensures table { seat.new.table_id ≡ seat.old.table_id }
-        ensures turned_away { result ≡ false → seat.new.me ≡ seat.old.me }
+        ensures turned_away { result ≡ false → StaysOut seat.old.me seat.new.me }
         ensures let_in { result ≡ true → IsAdmitted D.rest D.ready seat.old.me seat.new.me }
     {
         for doublings in 0..u32::BITS {
@@ -48,7 +48,7 @@ impl<D: MonitorData> RawBatonDoor<D> {
         requires table { seat.old.table_id ≡ self.now.table }
         requires outside { IsOutside seat.old.me }
         ensures table { seat.new.table_id ≡ seat.old.table_id }
-        ensures turned_away { result ≡ false → seat.new.me ≡ seat.old.me }
+        ensures turned_away { result ≡ false → StaysOut seat.old.me seat.new.me }
         ensures let_in { result ≡ true → IsAdmitted D.rest D.ready seat.old.me seat.new.me }
     {
         if !patience.may_poll() {

@@ -7,6 +7,7 @@ mod entering;
 mod entrance;
 mod handing;
 mod leaving;
+mod meeting;
 pub mod place;
 mod raw_monitor;
 mod rule;

@@ -6,6 +6,7 @@ ghost use Rattle.wait_book.specs.Contents.{IsPlaceBelow};
 ghost use Rattle.door_frame.specs.Making.{AreParts, IsMadeOf};
 ghost use Rattle.door_frame.specs.Steps.{MayGive, MayNote};
 ghost use Rattle.door_frame.specs.Places.{Closes, Entered, HasPlace, IsOut, IsWoken};
+ghost use Rattle.door_frame.specs.Refusals.{NotFree};
 ghost use Rattle.door_frame.specs.Seats.{GoesOut, StaysIn};
 ghost use Rattle.door_frame.specs.Releases.{event_of};
 ghost use Rattle.door_frame.specs.Notifications.{event_of_notification};
@@ -38,6 +39,8 @@ impl<D: MonitorData> RawMonitor<D> for RawBatonDoor<D> {
     ghost id = { λ d. d };
 
     ghost kinds = { λ d. kinds_of D.CONDITIONS D.MESA };
+
+    ghost refuses = { λ d. NotFree };
 
     type Shown = Option<Woken>;
 

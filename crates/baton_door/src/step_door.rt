@@ -8,8 +8,10 @@ ghost use Rattle.hoare_law.specs.Events.{opened};
 ghost use Rattle.hoare_law.specs.Sizes.{kinds_of};
 ghost use Rattle.hoare_law.specs.Priorities.{nobody};
 ghost use Rattle.wait_book.specs.Contents.{IsPlaceBelow, make_refusal};
+ghost use Rattle.door_frame.specs.Meeting.{Meets};
 ghost use Rattle.door_frame.specs.Places.{Closes, HasPlace, IsOut, places_from};
 ghost use Rattle.door_frame.specs.Steps.{MayGive, MayNote};
+ghost use Rattle.door_frame.specs.Refusals.{NotFree};
 ghost use Rattle.door_frame.specs.Seats.{GoesOut, StaysIn};
 ghost use Rattle.door_frame.specs.Releases.{event_of};
 ghost use Rattle.door_frame.specs.Notifications.{event_of_notification};
@@ -20,6 +22,7 @@ use crate::table_steps;
 use crate::word::FREE;
 use door_frame::guarded::GuardedBox;
 use door_frame::making::{closed_as, deal_by_caller, vacant};
+use door_frame::meeting;
 use door_frame::notification::Notification;
 use door_frame::place::Outside;
 use door_frame::raw_monitor::RawMonitor;
@@ -109,6 +112,23 @@ impl<D: MonitorData> StepDoor<D> {
         self.sizes
     }
 
+    /// Lets `a` and `b`, two places outside, meet, and returns them in this order. Afterwards both know one history. It
+    /// begins with what each of them knew, and has no further event of either.
+    pub fn meet(
+        &self,
+        a: Outside<D, ByCaller>,
+        b: Outside<D, ByCaller>,
+    ) -> (Outside<D, ByCaller>, Outside<D, ByCaller>)
+        requires a { IsOut D.rest D.ready self.now.kinds self.now.door a }
+        requires b { IsOut D.rest D.ready self.now.kinds self.now.door b }
+        ensures a { IsOut D.rest D.ready self.now.kinds self.now.door result.0 }
+        ensures b { IsOut D.rest D.ready self.now.kinds self.now.door result.1 }
+        ensures places { (result.0.place ≡ a.place) × (result.1.place ≡ b.place) }
+        ensures met { Meets a b result.0 result.1 }
+    {
+        meeting::meet(&self.table, a, b)
+    }
+
     /// Takes the door apart and returns the data. `outs` are all of its places, in any order.
     ///
     /// There is a history of the door whose last data are the returned ones. It is legal and lawful
@@ -150,6 +170,8 @@ impl<D: MonitorData> RawMonitor<D> for StepDoor<D> {
     ghost id = { λ d. d.door };
 
     ghost kinds = { λ d. d.kinds };
+
+    ghost refuses = { λ d. NotFree };
 
     type Shown = ();
 

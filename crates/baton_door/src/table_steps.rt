@@ -1,10 +1,10 @@
 //! The steps on the state word of a baton door, which need its table alone. No function here blocks or wakes a thread.
-ghost use Rattle.std.specs.Prelude.{◌≡◌, ◌<◌, true, false, IfSome, IfNone};
+ghost use Rattle.std.specs.Prelude.{◌≡◌, ◌<◌, ℕ, true, false, IfSome, IfNone};
 ghost use Rattle.hoare_law.specs.declared.event.History.{History};
 ghost use Rattle.hoare_law.specs.declared.event.Event.TheVariants as event;
 ghost use Rattle.wait_book.specs.Contents.{IsPlaceBelow};
 ghost use Rattle.door_frame.specs.Steps.{MayGive, MayNote, due};
-ghost use Rattle.door_frame.specs.Refusals.{NotOwed};
+ghost use Rattle.door_frame.specs.Refusals.{NotFree, NotOwed};
 ghost use Rattle.door_frame.specs.Seats.{IsEmptyHanded, HasReleased, IsEntering, IsRefused, EntersWith, GoesOut};
 ghost use Rattle.door_frame.specs.Seats.{StaysIn};
 ghost use Rattle.baton_door.specs.Entering.{IsOutside, IsAdmitted};
@@ -18,7 +18,8 @@ use door_frame::slot::{put_guarded, take_guarded};
 use hoare_law::data::MonitorData;
 use wait_book::steps::Next;
 
-/// Tries once to enter. Returns true if the monitor was free; the place is then inside.
+/// Tries once to enter. Returns true if the monitor was free; the place is then inside. Else the place learns the
+/// history at that moment.
 #[inline]
 pub(crate) fn try_in<D: MonitorData, K: DoorKey<D>>(
     table: &DoorTable<D, K>,
@@ -28,7 +29,7 @@ pub(crate) fn try_in<D: MonitorData, K: DoorKey<D>>(
     requires wide { table.now.shared.table_id.words ≡ 8 }
     requires outside { IsOutside seat.old.me }
     ensures table { seat.new.table_id ≡ seat.old.table_id }
-    ensures turned_away { result ≡ false → seat.new.me ≡ seat.old.me }
+    ensures refused { result ≡ false → (k : ℕ) → IsRefused D.rest D.ready NotFree k seat.old.me seat.new.me }
     ensures let_in { result ≡ true → IsAdmitted D.rest D.ready seat.old.me seat.new.me }
 {
     table
@@ -37,8 +38,8 @@ pub(crate) fn try_in<D: MonitorData, K: DoorKey<D>>(
         == FREE
 }
 
-/// Tries once to enter, and takes the guarded box. Returns `None`, with the seat unchanged, if the compare-exchange
-/// doesn't find `FREE`.
+/// Tries once to enter, and takes the guarded box. Returns `None` if the compare-exchange doesn't find `FREE`: by it the
+/// place learns the history at that moment.
 #[inline]
 pub(crate) fn try_admit<D: MonitorData, K: DoorKey<D>>(
     table: &DoorTable<D, K>,
@@ -51,7 +52,7 @@ pub(crate) fn try_admit<D: MonitorData, K: DoorKey<D>>(
     ensures table { seat.new.table_id ≡ seat.old.table_id }
     ensures enters_with { IfSome result (λ guarded. EntersWith D.rest D.ready place (λ f. event.Admit place)
         seat.old.me guarded seat.new.me) }
-    ensures same { IfNone result (seat.new.me ≡ seat.old.me) }
+    ensures refused { IfNone result (IsRefused D.rest D.ready NotFree place seat.old.me seat.new.me) }
 {
     if !try_in(table, seat) {
         return None;

@@ -162,8 +162,8 @@ pub extern "C" fn zaulinte_door_close(alloc: Global, door: &mut HeldDoor, value:
     DONE
 }
 
-/// Attempts to let the place enter. Returns 64 if it is inside then, or 102 if the monitor isn't free at this moment.
-/// Refused, in this order: 107 no place is held, 103 not outside.
+/// Attempts to let the place enter. Returns 64 if it is inside then, or 102 if the monitor wasn't free at some moment of
+/// this call. Refused, in this order: 107 no place is held, 103 not outside.
 #[unsafe(no_mangle)]
 pub extern "C" fn zaulinte_door_try_enter(place: &mut HeldPlace) -> u64
     ensures acted { place.old.live ≡ 1

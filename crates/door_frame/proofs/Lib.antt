@@ -4,6 +4,7 @@ pub mod Seats
 pub mod Inside
 pub mod Releases
 pub mod Refusals
+pub mod Meetings
 pub mod Arrivals
 pub mod Notifications
 pub mod Close

@@ -7,15 +7,14 @@ use Rattle.hoare_law.specs.declared.event.Event.TheVariants.{Wait, Signal, Pass,
 use Rattle.hoare_law.specs.declared.turn.Turn.{Turn}
 use Rattle.hoare_law.specs.declared.turn.Turn.TheVariants.{Free, Held, Owed, Return}
 use Rattle.hoare_law.specs.Internal.WithoutData.{dataless}
-use Rattle.hoare_law.specs.Events.{place_of, data_of, own, with_event}
-use Rattle.hoare_law.specs.Growth.{Begins, Exits, passed_on}
+use Rattle.hoare_law.specs.Events.{place_of, data_of, with_event}
+use Rattle.hoare_law.specs.Growth.{Exits, passed_on}
 use Rattle.hoare_law.specs.Sizes.{IsHoare, Kinds, sizes_at}
-use Rattle.hoare_law.specs.Lawful.{Rest, Ready, Owes, Stands}
+use Rattle.hoare_law.specs.Lawful.{Rest, Ready, Owes}
 use Rattle.hoare_law.specs.Legal.{Allowed}
 use Rattle.hoare_law.specs.Priorities.{priorities, joined}
 use Rattle.hoare_law.specs.Turns.{turn, is_out, IsGivenUp}
 use Rattle.hoare_law.specs.Waiting.{chosen, Chooses, wait_by, IsWaiting}
-use Rattle.hoare_law.proofs.Entering.{outside-same}
 use Rattle.hoare_law.proofs.Growth.{Begins-refl}
 use Rattle.hoare_law.proofs.Entering as entering
 use Rattle.hoare_law.proofs.Held.{is_inside, handing, hand_of, place_of-handing, data_of-handing}
@@ -37,7 +36,7 @@ use Rattle.door_frame.specs.declared.release.Release.TheVariants as release
 use Rattle.door_frame.specs.Releases.{place_for, event_of}
 use Rattle.door_frame.specs.Places.{PlaceId, DoorId, IsOut, IsAway, PlaceOut, PlaceIn, Handed, HandsTo, Released, waits}
 use Rattle.door_frame.specs.Places.{HandedTo}
-use Rattle.door_frame.specs.Places.{signalled, place_id_at, place_in, place_out}
+use Rattle.door_frame.specs.Places.{signalled, place_in, place_out}
 use Rattle.door_frame.specs.Steps.{SeatState, Gives, MayGive}
 use Rattle.door_frame.proofs.Inside.{Holds}
 use Rattle.door_frame.proofs.Refusals.{grows_none}
@@ -102,21 +101,6 @@ module _ {D : Type 0} where
     pub of : IsOut rest ready kinds d o
     pub place : o.place ≡ i.place
     pub front : Exits i.place c i.state i.front o.front true
-
-  -- a place outside that learns the history stays outside
-  pub told_out : (rest : Rest D) (ready : Ready D) (kinds : Kinds) (d : DoorId) (t : PlaceId) (o : PlaceOut D)
-      (h : History D)
-      → t ≡ place_id_at d o.place
-      → IsOut rest ready kinds d o → Stands rest ready h → Begins o.front h
-      → own o.place h.events ≡ own o.place o.front.events
-      → IsOut rest ready kinds d (place_out t o.place h)
-  told_out rest ready kinds d t o h of out stands begins same = record {
-    of = of;
-    sized = sym begins.sizes ∙ out.sized;
-    below = out.below;
-    stands = stands;
-    is_outside = outside-same o.place o.front h same out.is_outside;
-  }
 
   module _ {rest : Rest D} {ready : Ready D} {kinds : Kinds} {d : DoorId} {i : PlaceIn D} {t : PlaceId} {k : ℕ}
       {f : History D} {me : SeatState D} {x : Guarded D} where

@@ -7,3 +7,4 @@ pub mod Releases
 pub mod Notifications
 pub mod Making
 pub mod Refusals
+pub mod Meeting

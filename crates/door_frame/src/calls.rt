@@ -3,7 +3,7 @@ ghost use Rattle.std.specs.Prelude.{◌≡◌, ◌≢◌, ◌<◌, ◌↔◌, �
 ghost use Rattle.hoare_law.specs.declared.event.History.{History};
 ghost use Rattle.hoare_law.specs.declared.event.Event.TheVariants as event;
 ghost use Rattle.hoare_law.specs.Events.{with_event};
-ghost use Rattle.hoare_law.specs.Growth.{AddsLast, AddsTwo, Broadcasts, Exits, Notifies, Signals, SignalsTo};
+ghost use Rattle.hoare_law.specs.Growth.{AddsLast, AddsTwo, Broadcasts, Exits, Grows, Notifies, Signals, SignalsTo};
 ghost use Rattle.hoare_law.specs.Waiting.{IsWaiting};
 ghost use Rattle.hoare_law.specs.Sizes.{IsHoare, IsMesa};
 ghost use Rattle.hoare_law.specs.Priorities.{emptied, joined, priorities, taken};
@@ -67,8 +67,8 @@ fn return_with<D: MonitorData, S: Parking>(
     Inside::of_parts(seat, place, sleeper, guarded)
 }
 
-/// Implements `Monitor::try_enter`: enters if the door admits the place at this moment, else returns the place
-/// unchanged.
+/// Implements `Monitor::try_enter`: enters if the door admits the place at this moment, else returns the place, still
+/// outside: it has learned the history at some moment of this call, of which `refuses` holds.
 #[inline]
 pub fn try_enter<D: MonitorData, T: RawMonitor<D>, S: Parking>(
     door: &T,
@@ -81,7 +81,10 @@ pub fn try_enter<D: MonitorData, T: RawMonitor<D>, S: Parking>(
     ensures rest { IfOk result (λ i. D.rest i.state (priorities i.front.events)) }
     ensures front { IfOk result
         (λ i. AddsLast out.front (event.Admit out.place i.state) i.front) }
-    ensures same { IfErr result (λ o. o ≡ out) }
+    ensures still_of { IfErr result (λ o. IsOut D.rest D.ready (T.kinds door.now) (T.id door.now) o) }
+    ensures still_place { IfErr result (λ o. o.place ≡ out.place) }
+    ensures learned { IfErr result (λ o. Grows out.place [] out.front o.front) }
+    ensures refused { IfErr result (λ o. T.refuses door.now o.front) }
 {
     let (mut seat, place, sleeper) = out.into_parts();
     match door.try_admit(&mut seat, place) {

@@ -5,6 +5,7 @@
 pub mod calls;
 pub mod guarded;
 pub mod making;
+pub mod meeting;
 pub mod notification;
 pub mod parking;
 pub mod patience;

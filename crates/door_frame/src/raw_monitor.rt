@@ -29,12 +29,16 @@ use wait_book::steps::Next;
 pub trait RawMonitor<D: MonitorData> {
     ghost use Rattle.hoare_law.specs.Sizes.{Kinds};
     ghost use Rattle.wait_book.specs.declared.steps.Next.{Next};
+    ghost use Rattle.hoare_law.specs.declared.event.History.{History};
 
     /// The table that the door's seats belong to, how many places it has, and what each parks on.
     ghost id: { Self → DoorId };
 
     /// How many conditions the door has, and how many of them are Mesa conditions.
     ghost kinds: { Self → Kinds };
+
+    /// What holds of the history at some moment of an attempt that doesn't admit the place: why it doesn't.
+    ghost refuses: { Self → History D → Type 0 };
 
     /// The type of what `release` returns.
     type Shown: Drop;
@@ -43,15 +47,16 @@ pub trait RawMonitor<D: MonitorData> {
     /// implements `Wakes` too.
     ghost is_woken: { DoorId → Next → Self.Shown → Type 0 };
 
-    /// Admits the place if it may enter at this moment, and takes the guarded box; else the seat is unchanged. Never
-    /// blocks.
+    /// Admits the place if it may enter at this moment, and takes the guarded box. Else the place learns the history at
+    /// some moment of this call, of which `refuses` holds. Never blocks.
     fn try_admit(&self, seat: &mut DoorSeat<D>, place: usize) -> Option<GuardedBox<D>>
         requires table { seat.old.table_id ≡ (id self.now).table }
         requires outside { IsEntering place seat.old.me }
         ensures table { seat.new.table_id ≡ seat.old.table_id }
         ensures enters_with { IfSome result (λ guarded. EntersWith D.rest D.ready place (λ f. event.Admit place)
             seat.old.me guarded seat.new.me) }
-        ensures same { IfNone result (seat.new.me ≡ seat.old.me) };
+        ensures refused { IfNone result (IsRefused D.rest D.ready (refuses self.now) place
+            seat.old.me seat.new.me) };
 
     /// Lets the place return if the monitor is owed to it at this moment, and takes the guarded box. Else the place
     /// learns the history at some moment of this call at which the monitor wasn't owed to it. Never blocks.

@@ -169,6 +169,8 @@ impl<D: MonitorData + Send, T: Runs<D>> Monitor<D> for RunningMonitor<T> {
 
     ghost front_in = { λ i. i.front };
 
+    ghost refuses = { λ m h. T.refuses m h };
+
     ghost with_data = { λ i d. with_state i d };
 
     #[inline]

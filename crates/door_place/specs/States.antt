@@ -5,7 +5,7 @@ use Rattle.hoare_law.specs.declared.event.Event.TheVariants.{Admit, Wait, Leave,
 use Rattle.hoare_law.specs.declared.event.History.{History}
 use Rattle.hoare_law.specs.declared.unconstrained.Unconstrained.{Unconstrained}
 use Rattle.hoare_law.specs.Events.{opened, with_event}
-use Rattle.hoare_law.specs.Growth.{AddsLast, Exits}
+use Rattle.hoare_law.specs.Growth.{AddsLast, Exits, Grows}
 use Rattle.hoare_law.specs.Growth as growth
 use Rattle.hoare_law.specs.Lawful.{Rest, Ready}
 use Rattle.hoare_law.specs.Priorities.{priorities}
@@ -14,6 +14,7 @@ use Rattle.hoare_law.specs.Turns.{turn}
 use Rattle.hoare_law.specs.Waiting.{IsWaiting}
 use Rattle.wait_book.specs.Contents.{IsPlaceBelow, next_of}
 use Rattle.door_frame.specs.Places.{PlaceIn, PlaceOut, IsAway, IsBack, IsIn, IsOut, IsStillAway, HandsTo, with_state}
+use Rattle.door_frame.specs.Refusals.{NotFree}
 use Rattle.baton_door.specs.StepDoors.{StepId}
 use Rattle.door_place.specs.Codes.{code_of}
 use Rattle.door_place.specs.declared.state.State.{State}
@@ -72,11 +73,13 @@ pub record Wakes (h : History Carried) (code : ℕ) : Type 0 where
   pub is : code ≡ code_of (next_of (turn h.events))
   pub below : IsPlaceBelow 64 (next_of (turn h.events))
 
--- an attempt to enter: the place is inside, with what it found (64); it isn't its turn (102); it isn't outside (103)
+-- an attempt to enter: the place is inside, with what it found (64); it is still outside, and learned events of other
+-- places, and a history in which the monitor isn't free (102); it isn't outside (103)
 pub data TriesToEnter (old new : State) (code : ℕ) : Type 0 where
   entered : (o : PlaceOut Carried) (i : PlaceIn Carried) → old ≡ Outside o → new ≡ Inside i → code ≡ 64
       → i.place ≡ o.place → AddsLast o.front (Admit o.place i.state) i.front → TriesToEnter old new code
-  not_now : (o : PlaceOut Carried) → old ≡ Outside o → new ≡ old → code ≡ 102 → TriesToEnter old new code
+  not_now : (o p : PlaceOut Carried) → old ≡ Outside o → new ≡ Outside p → p.place ≡ o.place
+      → Grows o.place [] o.front p.front → NotFree p.front → code ≡ 102 → TriesToEnter old new code
   not_outside : NotOutside old → new ≡ old → code ≡ 103 → TriesToEnter old new code
 
 -- a leave: the place is outside, and the code is the place to wake; it isn't inside (104)

@@ -15,8 +15,8 @@ use door_frame::calls;
 use wait_book::steps::Next;
 
 /// An act of a place, which is done or refused by a code. The refusals are tested in this order: the place's state, the
-/// number of the condition, the kind of the condition. A refusal changes nothing, but by `NOT_NOW` a place that is to
-/// return learns events of other places.
+/// number of the condition, the kind of the condition. A refusal changes nothing, but by `NOT_NOW` a place learns events
+/// of other places.
 pub trait Act: Copy {
     ghost use Rattle.std.specs.Prelude.{◌≡◌};
     ghost use Rattle.hoare_law.specs.Growth.{Begins};
@@ -35,8 +35,8 @@ pub trait Act: Copy {
         ensures front { Begins (front_of state) (front_of result.0) };
 }
 
-/// An attempt to enter. Returns `NOBODY` if the place is inside then, or `NOT_NOW` if it isn't its turn at this moment.
-/// Refused: `NOT_OUTSIDE`.
+/// An attempt to enter. Returns `NOBODY` if the place is inside then, or `NOT_NOW` if the monitor wasn't free at some
+/// moment of this call: the place has learned the history at that moment. Refused: `NOT_OUTSIDE`.
 #[derive(Clone, Copy)]
 pub struct TryEnter;
 

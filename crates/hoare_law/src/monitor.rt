@@ -10,7 +10,7 @@ ghost use Rattle.hoare_law.specs.Events.{with_event};
 ghost use Rattle.hoare_law.specs.Waiting.{waiting, chosen, priority_of};
 ghost use Rattle.hoare_law.specs.Turns.{turn, outside};
 ghost use Rattle.hoare_law.specs.Lawful.{Stands};
-ghost use Rattle.hoare_law.specs.Growth.{AddsLast, AddsTwo, Broadcasts, Exits, Notifies, Signals};
+ghost use Rattle.hoare_law.specs.Growth.{AddsLast, AddsTwo, Broadcasts, Exits, Grows, Notifies, Signals};
 ghost use Rattle.hoare_law.specs.declared.event.History.{History};
 ghost use Rattle.hoare_law.specs.declared.event.Event.TheVariants as event;
 ghost use Rattle.hoare_law.specs.declared.turn.Turn.TheVariants as turns;
@@ -31,7 +31,7 @@ pub const PLAIN: u64 = 0;
 /// history that it knows; ghost: it exists only in contracts.
 ///
 /// A call that may block takes `rt`; its contract holds if it returns. No call reports an error (`try_enter` may return
-/// the place unchanged), and none allocates memory.
+/// the place, still outside), and none allocates memory.
 pub trait Monitor<D: MonitorData> {
     /// A place outside. After a place is dropped, no process can use it again.
     type Out: Drop + Send;
@@ -66,6 +66,9 @@ pub trait Monitor<D: MonitorData> {
     /// The front of a place inside: the history that it knows.
     ghost front_in: { Self.In → History D };
 
+    /// What holds of the history at some moment of a `try_enter` that doesn't enter: why it doesn't.
+    ghost refuses: { Self → History D → Type 0 };
+
     /// The place inside with other data in hand.
     ghost with_data: { Self.In → D → Self.In };
 
@@ -79,12 +82,13 @@ pub trait Monitor<D: MonitorData> {
         ensures front { AddsLast (front out) (event.Admit (place out) (data_in result))
             (front_in result) };
 
-    /// Enters as `enter` does if that is possible at this moment; otherwise returns the place unchanged, as `Err`.
+    /// Enters as `enter` does if that is possible at this moment; otherwise returns the place, still outside, as `Err`.
     /// Never blocks.
     ///
-    /// It may return `Err` although no process is inside and the monitor is owed to none, if a word of the monitor
-    /// changed while the call read it. On a ticket door it may also do so if another place has taken a ticket, or
-    /// attempts to enter at the same moment.
+    /// A place that didn't enter has learned the history at some moment of this call, of which `refuses` holds. On a
+    /// baton door it is a place's turn at that moment: a place is inside, or the monitor is owed to one. On a ticket
+    /// door `refuses` says nothing: there the call may also fail if another place has taken a ticket, or attempts to
+    /// enter at the same moment, or if a word of the monitor changed while the call read it.
     fn try_enter(&self, out: Self::Out) -> Result<Self::In, Self::Out>
         requires { is_of self.now out }
         ensures of { IfOk result (λ i. is_of_in self.now i) }
@@ -92,7 +96,10 @@ pub trait Monitor<D: MonitorData> {
         ensures rest { IfOk result (λ i. D.rest (data_in i) (lists_in i)) }
         ensures front { IfOk result (λ i. AddsLast (front out)
             (event.Admit (place out) (data_in i)) (front_in i)) }
-        ensures same { IfErr result (λ o. o ≡ out) };
+        ensures still_of { IfErr result (λ o. is_of self.now o) }
+        ensures still_place { IfErr result (λ o. place o ≡ place out) }
+        ensures learned { IfErr result (λ o. Grows (place out) [] (front out) (front o)) }
+        ensures refused { IfErr result (λ o. refuses self.now (front o)) };
 
     /// Leaves the monitor; the place is then outside. The caller must make `rest` true of the data and the waiting
     /// priorities.

@@ -13,7 +13,7 @@ impl<D: MonitorData + Send> Monitor<D> for Explored<D> {
     ghost use Rattle.std.specs.Prelude.{◌≡◌, ◌≢◌, ◌<◌, ℕ, refl};
     ghost use Rattle.hoare_law.specs.Priorities.{priorities};
     ghost use Rattle.hoare_law.specs.Sizes.{kinds_of};
-    ghost use Rattle.any_door.specs.Doors.{id_of};
+    ghost use Rattle.any_door.specs.Doors.{id_of, refuses_at};
     ghost use Rattle.hoare_law.proofs.Priorities.{IsNonDecreasing-priorities};
     ghost use Rattle.door_frame.specs.Places.{PlaceIn, IsOut, IsIn, with_state};
 
@@ -38,6 +38,8 @@ impl<D: MonitorData + Send> Monitor<D> for Explored<D> {
     ghost front = { λ o. o.front };
 
     ghost front_in = { λ i. i.front };
+
+    ghost refuses = { λ m h. refuses_at m.door h };
 
     ghost with_data = { λ i d. with_state i d };
 

@@ -141,6 +141,8 @@ impl<D: MonitorData + Drop + Send> Monitor<D> for Fake<D> {
 
     ghost front_in = { λ i. i.seat.me.0 };
 
+    ghost refuses = { λ m h. ⊥ };
+
     ghost with_data = { λ i d. record i { state = d } };
 
     fn enter<R: Wait>(&self, _rt: &R, out: FakeOut<D>) -> FakeIn<D> {

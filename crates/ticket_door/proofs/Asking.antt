@@ -8,14 +8,13 @@ use Rattle.hoare_law.specs.declared.event.Event.TheVariants.{Admit}
 use Rattle.hoare_law.specs.Sizes.{Kinds}
 use Rattle.hoare_law.specs.Events.{own, place_of, with_event}
 use Rattle.hoare_law.proofs.Admissions.{admissions-append}
-use Rattle.hoare_law.proofs.Growth.{Grows-trans}
 use Rattle.hoare_law.specs.Lawful.{Rest, Ready}
 use Rattle.door_frame.specs.declared.guarded.Guarded.{Guarded}
 use Rattle.hoare_law.specs.Growth.{AddsLast, Begins}
 use Rattle.hoare_law.specs.Priorities.{priorities}
 use Rattle.door_frame.specs.Places.{PlaceId, Entered, PlaceOut, PlaceIn, IsOut, IsIn, IsInHistory, place_in}
 use Rattle.door_frame.proofs.Arrivals.{entered}
-use Rattle.door_frame.proofs.Releases.{told_out}
+use Rattle.door_frame.proofs.Refusals.{added_after, grows_others, told_out}
 use Rattle.hoare_law.specs.declared.event.History.{History}
 use Rattle.door_frame.specs.Steps.{SeatState, EnteredBy}
 use Rattle.door_frame.specs.Views.{asking, is_alone, front_of}
@@ -46,11 +45,7 @@ module _ {D : Type 0} where
   pub AddsLast-told : {f g h : History D} {e : Event D} → Begins f g
       → own (place_of e) g.events ≡ own (place_of e) f.events
       → AddsLast g e h → AddsLast f e h
-  AddsLast-told {f = f} {e = e} begins same adds = record {
-    grows =
-        Grows-trans (record { begins = begins; adds = same ∙ sym (append-nil (own (place_of e) f.events)) }) adds.grows;
-    ends = adds.ends;
-  }
+  AddsLast-told {e = e} begins same adds = added_after (grows_others (place_of e) begins same) adds
 
   -- if the place k has no other events in g, none of the later events is its own
   pub own-later : (k : ℕ) (f g : History D) (b : Begins f g) → own k g.events ≡ own k f.events → own k b.later ≡ []

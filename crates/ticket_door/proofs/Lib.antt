@@ -7,4 +7,3 @@ pub mod Serving
 pub mod Trying
 pub mod Ringing
 pub mod Asking
-pub mod Meetings

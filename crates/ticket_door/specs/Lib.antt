@@ -3,4 +3,3 @@ pub mod Rule
 pub mod Steps
 pub mod Asked
 pub mod Tries
-pub mod Meeting

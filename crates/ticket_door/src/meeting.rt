@@ -1,14 +1,12 @@
 //! A meeting of two places outside.
 ghost use Rattle.std.specs.Prelude.{◌≡◌};
+ghost use Rattle.door_frame.specs.Meeting.{Meets};
 ghost use Rattle.door_frame.specs.Places.{IsOut};
-ghost use Rattle.ticket_door.specs.Meeting.{Meets};
 ghost use Rattle.hoare_law.specs.Sizes.{kinds_of};
 
 use crate::door::RawTicketDoor;
 use crate::place::TicketOut;
-use crate::words::SERVING;
-use door_frame::place::Outside;
-use door_frame::seat_steps::{Learn, MergePlaces, SplitFirst};
+use door_frame::meeting;
 use hoare_law::data::MonitorData;
 
 impl<D: MonitorData> RawTicketDoor<D> {
@@ -22,15 +20,6 @@ impl<D: MonitorData> RawTicketDoor<D> {
         ensures places { (result.0.place ≡ a.place) × (result.1.place ≡ b.place) }
         ensures met { Meets a b result.0 result.1 }
     {
-        let table = &self.table;
-        let (mut seat, place, sleeper) = a.into_parts();
-        let (other, other_place, other_sleeper) = b.into_parts();
-        table.shared.join_seat::<MergePlaces>(&mut seat, other);
-        table.shared.load::<Learn>(&mut seat, SERVING);
-        let cut = table.shared.split_seat::<SplitFirst>(&mut seat);
-        (
-            Outside::of_parts(seat, place, sleeper),
-            Outside::of_parts(cut, other_place, other_sleeper),
-        )
+        meeting::meet(&self.table, a, b)
     }
 }

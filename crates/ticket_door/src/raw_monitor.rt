@@ -1,5 +1,5 @@
 //! The raw monitor of a ticket door.
-ghost use Rattle.std.specs.Prelude.{◌≡◌, ◌<◌, ℕ, IfOk, IfErr, All};
+ghost use Rattle.std.specs.Prelude.{◌≡◌, ◌<◌, ℕ, ⊤, IfOk, IfErr, All};
 ghost use Rattle.hoare_law.specs.Priorities.{nobody};
 ghost use Rattle.hoare_law.specs.Sizes.{kinds_of};
 ghost use Rattle.wait_book.specs.Contents.{IsPlaceBelow};
@@ -20,7 +20,7 @@ use door_frame::making::{Parts, closed};
 use door_frame::notification::Notification;
 use door_frame::raw_monitor::{Opens, RawMonitor, Runs, Wakes};
 use door_frame::release::Release;
-use door_frame::seat_steps::DoorSeat;
+use door_frame::seat_steps::{DoorSeat, Learn};
 use door_frame::slot::take_guarded;
 use door_frame::waking::Woken;
 use hoare_law::data::MonitorData;
@@ -34,6 +34,9 @@ impl<D: MonitorData> RawMonitor<D> for RawTicketDoor<D> {
 
     ghost kinds = { λ d. kinds_of D.CONDITIONS D.MESA };
 
+    /// Nothing: another place may have a ticket, or may attempt to enter, and no history says so.
+    ghost refuses = { λ d h. ⊤ };
+
     type Shown = Option<Woken>;
 
     ghost is_woken = { IsWoken };
@@ -41,11 +44,12 @@ impl<D: MonitorData> RawMonitor<D> for RawTicketDoor<D> {
     /// Shuts the gate if NEXT and SERVING have the same ticket, tries to take that ticket, and opens the gate again.
     /// Returns `None` if a place has the monitor or a ticket, and also if another place tries, or a word changes
     /// between the polls. If the place isn't let in, it wakes the thread whose ticket is served, which may have gone to
-    /// sleep while the gate was shut.
+    /// sleep while the gate was shut. By the load of SERVING the place learns the history at that moment.
     fn try_admit(&self, seat: &mut DoorSeat<D>, place: usize) -> Option<GuardedBox<D>> {
         let table = &self.table;
         let ticket = table.shared.peek(NEXT);
-        if table.shared.peek(SERVING) != served_as(ticket) || !self.shut(seat, place, ticket) {
+        let serving = table.shared.load::<Learn>(seat, SERVING);
+        if serving != served_as(ticket) || !self.shut(seat, place, ticket) {
             return None;
         }
         let let_in = self.try_in(seat, place, ticket);

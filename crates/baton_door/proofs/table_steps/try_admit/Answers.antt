@@ -4,8 +4,8 @@ use Rattle.baton_door.proofs.table_steps.try_admit.Goals as goal
 pub try_in-requires-clause-outside : goal.try_in-requires-clause-outside
 try_in-requires-clause-outside g c = (c.args.place, c.requires.outside)
 
-pub returns-then-not-try_in-clause-same : goal.returns-then-not-try_in-clause-same
-returns-then-not-try_in-clause-same g c = c.try_in.ensures.turned_away c.if-not-try_in.true
+pub returns-then-not-try_in-clause-refused : goal.returns-then-not-try_in-clause-refused
+returns-then-not-try_in-clause-refused g c = c.try_in.ensures.refused c.if-not-try_in.true c.args.place
 
 pub take_guarded-requires-clause-full : goal.take_guarded-requires-clause-full
 take_guarded-requires-clause-full g c =

@@ -12,11 +12,9 @@ compare_exchange-requires g c =
       admits_at D.rest D.ready (g.K.DoorKey.kinds c.args.table.now.shared.key) _ _ _ _ _ _ out.1.1 out.1.2,
     )
 
-pub returns-clause-turned_away : goal.returns-clause-turned_away
-returns-clause-turned_away g c = λ no.
-    let out = c.requires.outside in
-    (c.compare_exchange.ensures.2 out.0 out.1.0 out.1.1).0
-    (λ hit. true≢false (sym (eq-eqb c.compare_exchange.result 0 hit) ∙ no))
+pub returns-clause-refused : goal.returns-clause-refused
+returns-clause-refused g c = λ no k f is.
+    (c.compare_exchange.ensures.2 k f is).0 (λ hit. true≢false (sym (eq-eqb c.compare_exchange.result 0 hit) ∙ no))
 
 pub returns-clause-let_in : goal.returns-clause-let_in
 returns-clause-let_in g c = λ is k f away.

@@ -1,7 +1,7 @@
 use Rattle.std.proofs.Common.{◌≡◌, ℕ, true, sym, ◌∙◌, subst}
 use Rattle.hoare_law.specs.Turns.{outside}
-use Rattle.door_frame.specs.Places.{place_out}
 use Rattle.door_frame.proofs.Arrivals.{entered}
+use Rattle.door_frame.proofs.Refusals.{still_out}
 use Rattle.door_frame.proofs.Seats.{away_as, place_id_on}
 use Rattle.door_frame.proofs.calls.try_enter.Goals as goal
 
@@ -25,17 +25,39 @@ returns-in-Some g c =
     let e =
     entered c.args.out _ _ c.requires (place_id_on g.S.Parking.at _ c.in-Some.ensures.table ∙ parts.0) parts.1 came
     (c.enter_with.ensures _ came) in
-    record { of = e.of; place = e.place; rest = e.rests; front = e.front; same = tt }
+    record {
+      of = e.of;
+      place = e.place;
+      rest = e.rests;
+      front = e.front;
+      still_of = tt;
+      still_place = tt;
+      learned = tt;
+      refused = tt;
+    }
 
 -- if the place didn't enter
 
 pub of_parts-requires : goal.of_parts-requires
 of_parts-requires g c =
     let parts = c.into_parts-seat.ensures in
-    (c.args.out.front, c.in-None.ensures.same ∙ away_as parts.1 parts.2)
+    let r = c.in-None.ensures.refused c.args.out.front (away_as parts.1 parts.2) in
+    (r.log, r.me_is)
 
-pub returns-in-None-clause-same : goal.returns-in-None-clause-same
-returns-in-None-clause-same g c =
+pub returns-in-None : goal.returns-in-None
+returns-in-None g c =
     let parts = c.into_parts-seat.ensures in
-    c.of_parts.ensures c.args.out.front (c.in-None.ensures.same ∙ away_as parts.1 parts.2)
-    ∙ (λ i. place_out ((place_id_on g.S.Parking.at _ c.in-None.ensures.table ∙ parts.0) i) (parts.1 i) c.args.out.front)
+    let r = c.in-None.ensures.refused c.args.out.front (away_as parts.1 parts.2) in
+    let o =
+    still_out c.args.out _ _ c.requires (place_id_on g.S.Parking.at _ c.in-None.ensures.table ∙ parts.0) parts.1 r
+    (c.of_parts.ensures r.log r.me_is) in
+    record {
+      of = tt;
+      place = tt;
+      rest = tt;
+      front = tt;
+      still_of = o.of;
+      still_place = o.place;
+      learned = o.front;
+      refused = o.cause;
+    }

@@ -1,5 +1,4 @@
-use Rattle.std.proofs.Common.{refl, ap, sym, ◌∙◌}
-use Rattle.door_place.specs.declared.state.State.TheVariants.{Outside}
+use Rattle.std.proofs.Common.{refl}
 use Rattle.door_place.specs.States.{entered, not_now}
 use Rattle.door_place.proofs.act.TryEnterAct.perform.Goals as goal
 
@@ -9,4 +8,5 @@ returns-in-Ok-clause-made c =
 
 pub returns-in-Err-clause-made : goal.returns-in-Err-clause-made
 returns-in-Err-clause-made c =
-    not_now c.in-Outside.out c.in-Outside.is (ap (λ o. Outside o) c.in-Err.ensures.same ∙ sym c.in-Outside.is) refl
+    let refused = c.in-Err.ensures in
+    not_now c.in-Outside.out c.in-Err.out c.in-Outside.is refl refused.still_place refused.learned refused.refused refl

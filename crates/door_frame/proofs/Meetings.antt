@@ -5,12 +5,12 @@ use Rattle.hoare_law.specs.Sizes.{Kinds}
 use Rattle.hoare_law.specs.Lawful.{Rest, Ready, Stands}
 use Rattle.door_frame.specs.declared.view.PlaceView.{PlaceView}
 use Rattle.door_frame.specs.declared.view.SeatView.TheVariants.{Places}
-use Rattle.door_frame.specs.Places.{PlaceId, DoorId, PlaceOut, IsOut, IsInHistory, place_id_at, place_out}
+use Rattle.door_frame.specs.Places.{PlaceId, DoorId, PlaceOut, IsOut, IsInHistory, place_out}
 use Rattle.door_frame.specs.Seats.{IsEmptyHanded}
 use Rattle.door_frame.specs.Steps.{SeatState, Known, Learns}
 use Rattle.door_frame.specs.Views.{alone, knows, both_places, places_behind, first_place}
-use Rattle.door_frame.proofs.Releases.{told_out}
-use Rattle.ticket_door.specs.Meeting.{Meets}
+use Rattle.door_frame.proofs.Refusals.{told_out}
+use Rattle.door_frame.specs.Meeting.{Meets}
 
 module _ {D : Type 0} where
   -- the place views of the seat that has both places
@@ -38,28 +38,33 @@ module _ {D : Type 0} where
   told_by : (h : History D) (o : PlaceOut D) → Known h (knows o.place o.front None) → IsInHistory h o
   told_by h o k = record { begins = k.0; own_are = k.1 }
 
-  -- r is the place o after it learned h
-  pub record Learnt (rest : Rest D) (ready : Ready D) (kinds : Kinds) (d : DoorId) (o : PlaceOut D) (h : History D)
-      (r : PlaceOut D) : Type 0 where
-    pub of : IsOut rest ready kinds d r
-    pub place : r.place ≡ o.place
-    pub front : r.front ≡ h
+  -- the places that a and b are after they learned h
+  pub meets : {rest : Rest D} {ready : Ready D} (a b : PlaceOut D) (s t : PlaceId) (h : History D) {m : SeatState D}
+      → Learns rest ready h (both_of a b) m → Meets a b (place_out s a.place h) (place_out t b.place h)
+  meets a b s t h l = record { one = refl; first = told_by h a l.fits.1.0; second = told_by h b l.fits.0 }
 
-  module _ (rest : Rest D) (ready : Ready D) where
-    pub out_as : (kinds : Kinds) (d : DoorId) (o r : PlaceOut D) (t : PlaceId) (k : ℕ) (h : History D)
-        → IsOut rest ready kinds d o
-        → Stands rest ready h → Known h (knows o.place o.front None) → t ≡ place_id_at d o.place → k ≡ o.place
-        → r ≡ place_out t k h
-        → Learnt rest ready kinds d o h r
-    out_as kinds d o r t k h out stands known of place is =
-        subst (Learnt rest ready kinds d o h) (sym (is ∙ (λ i. place_out t (place i) h)))
-        (record { of = told_out rest ready kinds d t o h of out stands known.0 known.1; place = refl; front = refl })
+  -- what holds of the places after they met
+  pub record Met (rest : Rest D) (ready : Ready D) (a b c d : PlaceOut D) : Type 0 where
+    pub of : (c.place_id ≡ a.place_id) × (d.place_id ≡ b.place_id)
+    pub places : (c.place ≡ a.place) × (d.place ≡ b.place)
+    pub stands : Stands rest ready d.front
+    pub met : Meets a b c d
 
-    pub meets : (a b c d : PlaceOut D) (h : History D) {m : SeatState D} → Learns rest ready h (both_of a b) m
-        → c.front ≡ h
-        → d.front ≡ h → Meets a b c d
-    meets a b c d h l first second = record {
-      one = first ∙ sym second;
-      first = subst (λ (f : History D). IsInHistory f a) (sym second) (told_by h a l.fits.1.0);
-      second = subst (λ (f : History D). IsInHistory f b) (sym second) (told_by h b l.fits.0);
-    }
+  pub has_met : {rest : Rest D} {ready : Ready D} (a b c d : PlaceOut D) (h : History D) {m : SeatState D}
+      → Learns rest ready h (both_of a b) m → c ≡ place_out a.place_id a.place h → d ≡ place_out b.place_id b.place h
+      → Met rest ready a b c d
+  has_met {rest = rest} {ready = ready} a b c d h l first second =
+      subst (λ (p : PlaceOut D × PlaceOut D). Met rest ready a b p.0 p.1) (λ i. (sym first i, sym second i)) (record {
+        of = (refl, refl);
+        places = (refl, refl);
+        stands = l.stands;
+        met = meets a b a.place_id b.place_id h l;
+      })
+
+  -- a place that met another is still outside, and of its door
+  pub met_out : {rest : Rest D} {ready : Ready D} {kinds : Kinds} {d : DoorId} (o p : PlaceOut D) (h : History D)
+      → IsOut rest ready kinds d o → p.place_id ≡ o.place_id → p.place ≡ o.place → p.front ≡ h
+      → Stands rest ready h → IsInHistory h o → IsOut rest ready kinds d p
+  met_out {rest = rest} {ready = ready} {kinds = kinds} {d = d} o p h out same at front stands told =
+      subst (IsOut rest ready kinds d) (λ i. place_out (sym same i) (sym at i) (sym front i))
+      (told_out rest ready kinds d o.place_id o h out.of out stands told.begins told.own_are)

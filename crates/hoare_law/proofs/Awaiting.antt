@@ -147,7 +147,7 @@ module _ {S : Type 0} where
           absurd (true≢false (sym (eq-eqb (place_of x) (place_of y) (sym same)) ∙ not-true _ passes))
 
   -- the position at which a wait is put in
-  stands_at : (f : List (Event S)) (k c p : ℕ) (s : S) → turn f ≡ Held k
+  pub stands_at : (f : List (Event S)) (k c p : ℕ) (s : S) → turn f ≡ Held k
       → (us ts : List (Event S)) × (in_turn (f ++ Wait k c p s ∷ []) c ≡ us ++ Wait k c p s ∷ ts)
       × (length us ≡ waiters_up_to c p f)
   unfolding waiters_up_to

@@ -1,22 +1,21 @@
 -- What happened between the two events that a call added.
-use Rattle.std.proofs.Common.{◌≡◌, ◌==◌, ◌+◌, ◌*◌, ◌≤◌, ℕ, List, [], ◌∷◌, ◌++◌, length, cond, Some}
+use Rattle.std.proofs.Common.{◌≡◌, ◌==◌, ◌+◌, ◌*◌, false, ◌≤◌, ℕ, List, [], ◌∷◌, ◌++◌, length, cond, true, Some}
 use Rattle.std.proofs.Common.{refl, ap, sym, ◌∙◌, arith, eq-eqb, append_assoc}
 use Rattle.std.proofs.lemmas.List.{append-nil, append_cancel_left, append_cancel_right}
 use Rattle.std.proofs.lemmas.List.Elements.{filter-append}
 use Rattle.hoare_law.specs.declared.event.Event.{Event}
 use Rattle.hoare_law.specs.declared.event.History.{History}
-use Rattle.hoare_law.specs.declared.event.Event.TheVariants.{Signal, Back}
-use Rattle.hoare_law.specs.declared.turn.Turn.TheVariants.{Held}
+use Rattle.hoare_law.specs.declared.event.Event.TheVariants.{Back}
 use Rattle.hoare_law.specs.Events.{place_of, own, newest, with_event, cut_to}
-use Rattle.hoare_law.specs.Turns.{urgent, turn}
+use Rattle.hoare_law.specs.Turns.{is_signal, urgent}
 use Rattle.hoare_law.specs.Legal.{IsLegal}
 use Rattle.hoare_law.specs.Growth.{AddsTwo}
 use Rattle.hoare_law.specs.Admissions.{admissions}
 use Rattle.hoare_law.specs.Overtaking.{releases, returned, visits, waiting_anywhere}
 use Rattle.hoare_law.proofs.Filters.{HasLast, nothing, pushed, has_last}
 use Rattle.hoare_law.proofs.Events.{newest-push, own-push}
-use Rattle.hoare_law.proofs.Signallers.{signal_between, meanwhile, urgent-signal, given_up, given_up-one}
-use Rattle.hoare_law.proofs.Signallers.{given_up-push, legal_upto, length-parts}
+use Rattle.hoare_law.proofs.Signallers.{signal_between, signalled, meanwhile, given_up, given_up-one}
+use Rattle.hoare_law.proofs.Signallers.{legal_upto, length-parts}
 use Rattle.hoare_law.proofs.Resuming.{no_elements}
 use Rattle.hoare_law.proofs.Visits.{few_visits, few_in_all}
 
@@ -68,40 +67,40 @@ module _ {S : Type 0} where
           (whole ∙ append_assoc f.events (d ∷ more) (x ∷ []) ∙ ap (λ y. f.events ++ d ∷ (more ++ y ∷ [])) one)
 
   -- what happened between a signal and its return
-  pub signal_returned : (f h : History S) (k c w : ℕ) (s t : S) → IsLegal h
-      → AddsTwo f (Signal k c w s) (Back k t) h
-      → (later : List (Event S)) × (h.events ≡ f.events ++ Signal k c w s ∷ (later ++ Back k t ∷ []))
-      × (own k later ≡ []) × (returned later ≡ urgent f.events)
+  pub signal_returned : (f h : History S) (e : Event S) (t : S) → is_signal e ≡ true → IsLegal h
+      → AddsTwo f e (Back (place_of e) t) h
+      → (later : List (Event S)) × (h.events ≡ f.events ++ e ∷ (later ++ Back (place_of e) t ∷ []))
+      × (own (place_of e) later ≡ []) × (returned later ≡ urgent f.events)
       × (releases later ≡ length (urgent f.events) + 1) × (admissions later ≡ 0)
       × (visits later ≤ length (waiting_anywhere f.events) + 2 * length (urgent f.events))
       × (visits later + 3 ≤ 2 * f.sizes.places)
-  signal_returned f h k c w s t legal adds =
-      let b = between_two f (Signal k c w s) (Back k t) h refl adds (λ same. cc) in
-      let g : History S = cut_to h (f.events ++ Signal k c w s ∷ b.later) in
+  signal_returned f h e t is legal adds =
+      let k : ℕ = place_of e in
+      let b = between_two f e (Back k t) h refl adds
+      (λ same. let no : true ≡ false = sym is ∙ ap is_signal same in cc) in
+      let g : History S = cut_to h (f.events ++ e ∷ b.later) in
       let at : h.events ≡ g.events ++ Back k t ∷ [] =
-      b.is ∙ sym (append_assoc f.events (Signal k c w s ∷ b.later) (Back k t ∷ [])) in
+      b.is ∙ sym (append_assoc f.events (e ∷ b.later) (Back k t ∷ [])) in
       let fits : IsLegal g = legal_upto h g.events (Back k t ∷ []) at legal in
-      let behind : g.events ≡ (f.events ++ Signal k c w s ∷ []) ++ b.later =
-      sym (append_assoc f.events (Signal k c w s ∷ []) b.later) in
-      let held : turn f.events ≡ Held k = (fits.each f.events b.later (Signal k c w s) refl).fits.0 in
-      let m = meanwhile g (f.events ++ Signal k c w s ∷ []) b.later (urgent f.events) k [] fits behind
-      (urgent-signal f.events k c w s held) b.alone in
-      let times = signal_between h f.events b.later [] k c w s t legal b.is b.alone in
-      let ups : releases b.later + given_up (f.events ++ Signal k c w s ∷ [])
-      ≡ length (returned b.later) + given_up ((f.events ++ Signal k c w s ∷ []) ++ b.later) = m.times in
-      let shut : given_up (f.events ++ Signal k c w s ∷ []) ≡ 0 = given_up-push f.events (Signal k c w s) in
-      let one = given_up-one ((f.events ++ Signal k c w s ∷ []) ++ b.later) in
+      let behind : g.events ≡ (f.events ++ e ∷ []) ++ b.later = sym (append_assoc f.events (e ∷ []) b.later) in
+      let now = signalled (cut_to g f.events) e is (fits.each f.events b.later e refl) in
+      let m = meanwhile g (f.events ++ e ∷ []) b.later (urgent f.events) k [] fits behind now.now b.alone in
+      let times = signal_between h f.events b.later [] e t is legal b.is b.alone in
+      let ups : releases b.later + given_up (f.events ++ e ∷ [])
+      ≡ length (returned b.later) + given_up ((f.events ++ e ∷ []) ++ b.later) = m.times in
+      let shut : given_up (f.events ++ e ∷ []) ≡ 0 = now.kept in
+      let one = given_up-one ((f.events ++ e ∷ []) ++ b.later) in
       let many : length (urgent f.events) ≡ length (returned b.later) + length m.left =
       length-parts _ (returned b.later) m.left m.came in
       let none : m.left ≡ [] = no_elements m.left (omega (arith, times, ups, shut, one, many)) in
       let sizes : h.sizes.places ≡ f.sizes.places = ap (λ n. n.places) (sym adds.grows.begins.sizes) in
-      let few = few_in_all g f.events b.later k c w s fits refl b.alone in (
+      let few = few_in_all g f.events b.later e is fits refl b.alone in (
         b.later,
         b.is,
         b.alone,
         all_of (urgent f.events) (returned b.later) m.left m.came none,
         times,
         m.nobody,
-        few_visits g f.events b.later k c w s fits refl b.alone,
+        few_visits g f.events b.later e is fits refl b.alone,
         omega (arith, few, sizes),
       )

@@ -33,3 +33,4 @@ pub mod Room
 pub mod Visits
 pub mod Between
 pub mod Awaiting
+pub mod MesaAwaiting

@@ -352,7 +352,7 @@ module _ {S : Type 0} where
   unfolding waits_below
   waits_below_more c p e later = counted_more (comes_below c p) e later
 
-  signals_to_more : (c : ℕ) (e : Event S) (later : List (Event S))
+  pub signals_to_more : (c : ℕ) (e : Event S) (later : List (Event S))
       → signals_to c (e ∷ later) ≡ one_if (signals_on c e) + signals_to c later
   unfolding signals_to
   signals_to_more c e later = counted_more (signals_on c) e later
@@ -386,7 +386,7 @@ module _ {S : Type 0} where
   first_empty [] x vs xs shut is = is
   first_empty (t ∷ ts) x vs xs shut is = absurd (omega arith)
 
-  chosen_alone : (c : ℕ) (h : List (Event S)) (x : Event S) (ts vs : List (Event S)) → chosen c h ≡ Some x
+  pub chosen_alone : (c : ℕ) (h : List (Event S)) (x : Event S) (ts vs : List (Event S)) → chosen c h ≡ Some x
       → in_turn h c ≡ ts ++ x ∷ vs → length ts ≡ 0
   chosen_alone c h x [] vs is at = refl
   chosen_alone c h x (t ∷ ts) vs is at =
@@ -395,6 +395,13 @@ module _ {S : Type 0} where
       absurd (true≢false (sym (eq-eqb (place_of x) (place_of x) refl)
       ∙ not-true _ (list_all-at (λ y. not (place_of x == place_of y)) ts x vs others)))
 
+  -- a signal would resume x if all waiters before it were taken, and all that began to wait later with a lesser
+  -- priority
+  pub passed_next : (c : ℕ) (h : List (Event S)) (us : List (Event S)) (x : Event S) (took put named : ℕ)
+      → Passed c h us x took put named → took ≡ length us + put → chosen c h ≡ Some x
+  passed_next c h us x took put named r all =
+      chosen_first c h x r.behind (first_empty r.before x r.behind (in_turn h c) (omega (arith, all, r.counts)) r.now)
+
   -- if none was named, a signal would resume x exactly when all waiters before it were taken, and all that began to
   -- wait later with a lesser priority
   pub passed_chosen : (c : ℕ) (h : List (Event S)) (us : List (Event S)) (x : Event S) (took put named : ℕ)
@@ -402,8 +409,7 @@ module _ {S : Type 0} where
   passed_chosen c h us x took put named r none_named = (
     (λ is. let none = chosen_alone c h x r.before r.behind is r.now in
         omega (arith, none, none_named, r.few, r.counts)),
-    (λ all. chosen_first c h x r.behind
-        (first_empty r.before x r.behind (in_turn h c) (omega (arith, all, none_named, r.few, r.counts)) r.now)),
+    passed_next c h us x took put named r,
   )
 
   -- no priority is less than 0

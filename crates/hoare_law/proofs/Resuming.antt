@@ -517,7 +517,7 @@ module _ {S : Type 0} where
       by (pushed g e ends) = by_end g e (is_release e) refl ends
 
   -- a notified process to which the monitor is owed is the first of them
-  first_alone : (h : History S) (x first : Event S) (others left more : List (Event S)) → IsLegal h
+  pub first_alone : (h : History S) (x first : Event S) (others left more : List (Event S)) → IsLegal h
       → called h.events ≡ first ∷ others → place_of first ≡ place_of x → called h.events ≡ left ++ x ∷ more
       → length left ≡ 0
   first_alone h x first others [] more legal are place now = refl

@@ -16,7 +16,8 @@ use Rattle.hoare_law.specs.declared.event.Event.TheVariants.{Admit, Wait, Signal
 use Rattle.hoare_law.specs.declared.event.Event.TheVariants.{Broadcast, SignalTo}
 use Rattle.hoare_law.specs.Events.{place_of, own, newest}
 use Rattle.hoare_law.specs.Called.{called}
-use Rattle.hoare_law.specs.Waiting.{condition_of, waits_on, concerns, is_untouched, waiting}
+use Rattle.hoare_law.specs.Waiting.{priority_of, condition_of, waits_on, concerns, is_untouched, waiting}
+use Rattle.hoare_law.specs.Priorities.{in_order}
 use Rattle.hoare_law.specs.Turns.{is_signal, urgent, turn}
 use Rattle.hoare_law.specs.Legal.{IsInRange, IsLegal}
 use Rattle.hoare_law.specs.Overtaking.{is_wait, waiting_anywhere}
@@ -29,7 +30,8 @@ use Rattle.hoare_law.proofs.Waiters.{newest-own_split, untouched_last}
 use Rattle.hoare_law.proofs.Owed.{IsCalled, All-called}
 use Rattle.hoare_law.proofs.Calling.{others_called}
 use Rattle.hoare_law.proofs.Signallers.{Once, Once-urgent, in_no_signal, urgent-apart}
-use Rattle.hoare_law.proofs.Resuming.{called-once, signal_waits_not, no_elements}
+use Rattle.hoare_law.proofs.Resuming.{called-once, signal_waits_not, no_elements, length-filter_le}
+use Rattle.hoare_law.proofs.Sorted.{length-in_order}
 
 distinct_of : (us : List ℕ) → Once us → IsDistinct eqb us
 unfolding IsDistinct
@@ -323,14 +325,15 @@ module _ {S : Type 0} where
   All-mapped : (P : ℕ → Type 0) (xs : List (Event S)) → All (λ x. P (place_of x)) xs → All P (map place_of xs)
   All-mapped P xs all = All-map P place_of xs all
 
-  -- there are no more of the place inside, the signallers, the notified processes and the waiters than there are places
-  pub room_for_all : (h : History S) (k : ℕ) → IsLegal h → turn h.events ≡ Held k
-      → length (waiting_anywhere h.events) + length (urgent h.events) + length (called h.events) + 1 ≤ h.sizes.places
-  room_for_all h k legal held =
-      let us : List ℕ = urgent h.events in
+  -- the places of the signallers, the notified processes and the waiters
+  abbrev places_of : List (Event S) → List ℕ
+  places_of h = urgent h ++ (map place_of (called h) ++ map place_of (waiting_anywhere h))
+
+  -- they are different places
+  once_all : (h : History S) → IsLegal h → Once (places_of h.events)
+  once_all h legal =
       let ws : List ℕ = map place_of (waiting_anywhere h.events) in
       let cs : List ℕ = map place_of (called h.events) in
-      let r = own-held h.events k held in
       let once_ws : Once ws = Once-places (waiting_anywhere h.events) (OnceOf-anywhere h.events) in
       let once_cs : Once cs =
       Once-places (called h.events) (OnceOf-often (called h.events) (λ w. called-once h w legal)) in
@@ -338,34 +341,63 @@ module _ {S : Type 0} where
       All-mapped (λ u. list_all (λ v. not (u == v)) ws ≡ true) (called h.events)
       (All-weaker (IsCalled h) (λ x. list_all (λ v. not (place_of x == v)) ws ≡ true) (called_apart_waiting h)
       (called h.events) (All-called h legal)) in
-      let once_both : Once (cs ++ ws) = Once-append cs ws once_cs once_ws cs_ws in
-      let us_both : All (λ u. list_all (λ v. not (u == v)) (cs ++ ws) ≡ true) us =
+      let us_both : All (λ u. list_all (λ v. not (u == v)) (cs ++ ws) ≡ true) (urgent h.events) =
       All-weaker (LastSignals h.events) (λ u. list_all (λ v. not (u == v)) (cs ++ ws) ≡ true)
       (λ u was. apart_all u cs ws (called_no_signaller h u was (called h.events) (All-called h legal))
       (apart_waiting h.events u was.0 was.1 (signal_no_wait was.0 was.2) (waiting_anywhere h.events)
-      (All-anywhere h.events))) us (All-urgent h.events) in
-      let k_called : list_all (λ v. not (k == v)) cs ≡ true =
-      through (called h.events) (others_called h k legal held) in
-      let k_first : list_all (λ v. not (k == v)) (us ++ (cs ++ ws)) ≡ true =
-      apart_all k us (cs ++ ws) (urgent-apart h.events k r.0 r.1 (in_no_signal r.0 r.2))
-      (apart_all k cs ws k_called
-      (apart_waiting h.events k r.0 r.1 (in_no_wait r.0 r.2) (waiting_anywhere h.events) (All-anywhere h.events))) in
-      let once : Once (k ∷ (us ++ (cs ++ ws))) =
-      (k_first, Once-append us (cs ++ ws) (Once-urgent h.events) once_both us_both) in
-      let below : All (λ j. j < h.sizes.places) (k ∷ (us ++ (cs ++ ws))) =
-      All-cons (λ j. j < h.sizes.places) k (us ++ (cs ++ ws)) (held-in_range h k legal held)
-      (All-two h.sizes.places us (cs ++ ws) (urgent-in_range h legal)
-      (All-two h.sizes.places cs ws (in_range_called h legal) (in_range_anywhere h legal))) in
-      let few : length (k ∷ (us ++ (cs ++ ws))) ≤ h.sizes.places =
-      few_places (k ∷ (us ++ (cs ++ ws))) h.sizes.places once below in
+      (All-anywhere h.events))) (urgent h.events) (All-urgent h.events) in
+      Once-append (urgent h.events) (cs ++ ws) (Once-urgent h.events) (Once-append cs ws once_cs once_ws cs_ws) us_both
+
+  all_below : (h : History S) → IsLegal h → All (λ j. j < h.sizes.places) (places_of h.events)
+  all_below h legal =
+      let ws : List ℕ = map place_of (waiting_anywhere h.events) in
+      let cs : List ℕ = map place_of (called h.events) in
+      All-two h.sizes.places (urgent h.events) (cs ++ ws) (urgent-in_range h legal)
+      (All-two h.sizes.places cs ws (in_range_called h legal) (in_range_anywhere h legal))
+
+  counted_all : (h : List (Event S))
+      → length (places_of h) ≡ length (waiting_anywhere h) + length (urgent h) + length (called h)
+  counted_all h =
+      let ws : List ℕ = map place_of (waiting_anywhere h) in let cs : List ℕ = map place_of (called h) in
       omega (
         arith,
-        few,
-        length-append us (cs ++ ws),
+        length-append (urgent h) (cs ++ ws),
         length-append cs ws,
-        length-map (waiting_anywhere h.events) place_of,
-        length-map (called h.events) place_of,
+        length-map (waiting_anywhere h) place_of,
+        length-map (called h) place_of,
       )
+
+  -- so there are no more of them than there are places
+  pub room_always : (h : History S) → IsLegal h
+      → length (waiting_anywhere h.events) + length (urgent h.events) + length (called h.events) ≤ h.sizes.places
+  room_always h legal =
+      let few = few_places (places_of h.events) h.sizes.places (once_all h legal) (all_below h legal) in
+      omega (arith, few, counted_all h.events)
+
+  -- so a waiter has fewer waiters before it
+  pub few_before : (c : ℕ) (h : History S) (before behind : List (Event S)) (x : Event S) → IsLegal h
+      → in_order priority_of (waiting c h.events) ≡ before ++ x ∷ behind → length before < h.sizes.places
+  few_before c h before behind x legal is =
+      let all = sym (length-in_order priority_of (waiting c h.events)) ∙ ap length is
+      ∙ length-append before (x ∷ behind) in
+      let there = ap length (waiting-anywhere c h.events) in
+      omega (arith, all, there, length-filter_le (waits_on c) (waiting_anywhere h.events), room_always h legal)
+
+  -- and one place less, if a place is inside
+  pub room_for_all : (h : History S) (k : ℕ) → IsLegal h → turn h.events ≡ Held k
+      → length (waiting_anywhere h.events) + length (urgent h.events) + length (called h.events) + 1 ≤ h.sizes.places
+  room_for_all h k legal held =
+      let r = own-held h.events k held in
+      let ws : List ℕ = map place_of (waiting_anywhere h.events) in
+      let cs : List ℕ = map place_of (called h.events) in
+      let first : list_all (λ v. not (k == v)) (places_of h.events) ≡ true =
+      apart_all k (urgent h.events) (cs ++ ws) (urgent-apart h.events k r.0 r.1 (in_no_signal r.0 r.2))
+      (apart_all k cs ws (through (called h.events) (others_called h k legal held))
+      (apart_waiting h.events k r.0 r.1 (in_no_wait r.0 r.2) (waiting_anywhere h.events) (All-anywhere h.events))) in
+      let few : length (k ∷ places_of h.events) ≤ h.sizes.places =
+      few_places (k ∷ places_of h.events) h.sizes.places (first, once_all h legal)
+      (All-cons (λ j. j < h.sizes.places) k (places_of h.events) (held-in_range h k legal held) (all_below h legal)) in
+      omega (arith, few, counted_all h.events)
     where
       through : (xs : List (Event S)) → list_all (λ x. not (k == place_of x)) xs ≡ true
           → list_all (λ v. not (k == v)) (map place_of xs) ≡ true

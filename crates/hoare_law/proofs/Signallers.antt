@@ -410,36 +410,59 @@ module _ {S : Type 0} where
           let zero : length r.left ≡ 0 = omega (arith, kept, many, up, often, r.times) in
           return_of_first (f ++ later) k (vs ++ r.more) up (first_now r.left (vs ++ r.more) _ zero r.now)
 
-  -- after its signal k is the last of the waiting signallers
-  pub urgent-signal : (f : List (Event S)) (k c w : ℕ) (s : S) → turn f ≡ Held k
-      → urgent (f ++ Signal k c w s ∷ []) ≡ urgent f ++ k ∷ []
-  urgent-signal f k c w s held =
-      let r = own-held f k held in
-      stay_by f (Signal k c w s) (urgent-apart f k r.0 r.1 (in_no_signal r.0 r.2))
+  -- the place that signals by the event e is inside, releases nothing, and is then the last of the waiting signallers
+  pub record Signalled (f : List (Event S)) (e : Event S) : Type 0 where
+    pub held : turn f ≡ Held (place_of e)
+    pub now : urgent (f ++ e ∷ []) ≡ urgent f ++ place_of e ∷ []
+    pub kept : given_up (f ++ e ∷ []) ≡ 0
+
+  pub signalled : (f : History S) (e : Event S) → is_signal e ≡ true → Allowed f e → Signalled f.events e
+  signalled f e is may = by e is may
+    where
+      at : (y : Event S) → is_signal y ≡ true → is_release y ≡ false → turn f.events ≡ Held (place_of y)
+          → Signalled f.events y
+      at y signals keeps held =
+          let r = own-held f.events (place_of y) held in record {
+            held = held;
+            now =
+                stay_by f.events y (urgent-apart f.events (place_of y) r.0 r.1 (in_no_signal r.0 r.2))
+                ∙ ap (λ b. urgent f.events ++ cond b (place_of y ∷ []) []) signals;
+            kept = given_up-push f.events y ∙ ap (λ b. cond b 1 0) keeps;
+          }
+
+      by : (y : Event S) → is_signal y ≡ true → Allowed f y → Signalled f.events y
+      by (Signal k c w s) told fits = at (Signal k c w s) refl refl fits.fits.0
+      by (SignalTo k c w s) told fits = at (SignalTo k c w s) refl refl fits.fits.0
+      by (Admit k s) told fits = absurd (cc)
+      by (Wait k c p s) told fits = absurd (cc)
+      by (Pass k c w s) told fits = absurd (cc)
+      by (Leave k s) told fits = absurd (cc)
+      by (Resume k c s) told fits = absurd (cc)
+      by (Back k s) told fits = absurd (cc)
+      by (Notify k c w s) told fits = absurd (cc)
+      by (Broadcast k c s) told fits = absurd (cc)
 
   -- the same, counted from its signal
-  pub signal_bound : (h : History S) (f later : List (Event S)) (k c w : ℕ) (s : S) → IsLegal h
-      → h.events ≡ f ++ Signal k c w s ∷ later → own k later ≡ []
+  pub signal_bound : (h : History S) (f later : List (Event S)) (e : Event S) → is_signal e ≡ true → IsLegal h
+      → h.events ≡ f ++ e ∷ later → own (place_of e) later ≡ []
       → (releases later ≤ length (urgent f) + 1)
-      × (turn h.events ≡ Return k ↔ (releases later ≡ length (urgent f) + 1))
-  signal_bound h f later k c w s legal at none =
-      let whole : h.events ≡ (f ++ Signal k c w s ∷ []) ++ later =
-      at ∙ sym (append_assoc f (Signal k c w s ∷ []) later) in
-      let held = (legal.each f later (Signal k c w s) at).fits.0 in
-      let r = signaller_bound h (f ++ Signal k c w s ∷ []) later (urgent f) k [] legal whole
-      (given_up-push f (Signal k c w s)) (urgent-signal f k c w s held) none in
+      × (turn h.events ≡ Return (place_of e) ↔ (releases later ≡ length (urgent f) + 1))
+  signal_bound h f later e is legal at none =
+      let whole : h.events ≡ (f ++ e ∷ []) ++ later = at ∙ sym (append_assoc f (e ∷ []) later) in
+      let now = signalled (cut_to h f) e is (legal.each f later e at) in
+      let r = signaller_bound h (f ++ e ∷ []) later (urgent f) (place_of e) [] legal whole now.kept now.now none in
       (r.0, ((λ t. r.1.0 (ap turn (sym whole) ∙ t)), (λ g. ap turn whole ∙ r.1.1 g)))
 
   -- between a signal and its return there is one release more than signallers waited
-  pub signal_between : (h : History S) (f later more : List (Event S)) (k c w : ℕ) (s t : S) → IsLegal h
-      → h.events ≡ f ++ Signal k c w s ∷ (later ++ Back k t ∷ more) → own k later ≡ []
+  pub signal_between : (h : History S) (f later more : List (Event S)) (e : Event S) (t : S) → is_signal e ≡ true
+      → IsLegal h → h.events ≡ f ++ e ∷ (later ++ Back (place_of e) t ∷ more) → own (place_of e) later ≡ []
       → releases later ≡ length (urgent f) + 1
-  signal_between h f later more k c w s t legal at none =
-      let whole : h.events ≡ (f ++ Signal k c w s ∷ later) ++ Back k t ∷ more =
-      at ∙ sym (append_assoc f (Signal k c w s ∷ later) (Back k t ∷ more)) in
-      let g : History S = cut_to h (f ++ Signal k c w s ∷ later) in
-      let r = signal_bound g f later k c w s (legal_upto h g.events (Back k t ∷ more) whole legal) refl none in
-      r.1.0 (legal.each g.events more (Back k t) whole).fits.0
+  signal_between h f later more e t is legal at none =
+      let back : Event S = Back (place_of e) t in
+      let whole : h.events ≡ (f ++ e ∷ later) ++ back ∷ more = at ∙ sym (append_assoc f (e ∷ later) (back ∷ more)) in
+      let g : History S = cut_to h (f ++ e ∷ later) in
+      let r = signal_bound g f later e is (legal_upto h g.events (back ∷ more) whole legal) refl none in
+      r.1.0 (legal.each g.events more back whole).fits.0
 
   -- at any time there are no more releases than that
   pub signaller_at_most : (h : History S) (f later : List (Event S)) (us : List ℕ) (k : ℕ) (vs : List ℕ) → IsLegal h

@@ -14,7 +14,7 @@ use Rattle.hoare_law.specs.declared.turn.Turn.TheVariants.{Held}
 use Rattle.hoare_law.specs.Events.{place_of, own, newest, cut_to}
 use Rattle.hoare_law.specs.Waiting.{condition_of, waits_on, concerns, IsWaiting}
 use Rattle.hoare_law.specs.Called.{called}
-use Rattle.hoare_law.specs.Turns.{urgent, turn}
+use Rattle.hoare_law.specs.Turns.{is_signal, urgent, turn}
 use Rattle.hoare_law.specs.Legal.{Allowed, IsLegal}
 use Rattle.hoare_law.specs.Overtaking.{releases, signals, is_back, returned, begins_visit, visits}
 use Rattle.hoare_law.specs.Overtaking.{is_notification, notifications, is_wait, waiting_anywhere}
@@ -26,7 +26,7 @@ use Rattle.hoare_law.proofs.Held.{by_signal_to, handing}
 use Rattle.hoare_law.proofs.Held.{turn-held, turn-return, turn-owed, urgent-free}
 use Rattle.hoare_law.proofs.Priorities.{Chooses-waits, waiting-wait_by}
 use Rattle.hoare_law.proofs.Signallers.{some_of, legal_upto, own_other}
-use Rattle.hoare_law.proofs.Signallers.{meanwhile, urgent-signal, signal_bound, length-parts}
+use Rattle.hoare_law.proofs.Signallers.{meanwhile, signalled, signal_bound, length-parts}
 use Rattle.hoare_law.proofs.PassedOver.{one_if, counted_more}
 use Rattle.hoare_law.proofs.Resuming.{length-filter_le, waiting_among, returned_more, called_at_most}
 use Rattle.hoare_law.proofs.Room.{anywhere-push, waiting-anywhere, room_for_all}
@@ -311,46 +311,67 @@ module _ {S : Type 0} where
           omega (arith, a, b, anywhere_some g e)
       by (nothing none) = let a : waited_last h ≡ 0 = waited_nothing h none in omega (arith, a)
 
+  -- a signal takes a waiter, and hands off the monitor
+  record SignalHands (f : List (Event S)) (e : Event S) : Type 0 where
+    less : length (waiting_anywhere (f ++ e ∷ [])) + 1 ≤ length (waiting_anywhere f)
+    hand : is_hand e ≡ true
+    no_wait : is_wait e ≡ false
+    out : is_inside e ≡ false
+
+  signal_hands : (f : History S) (e : Event S) → is_signal e ≡ true → Allowed f e → SignalHands f.events e
+  signal_hands f (Signal k c w s) is may = record {
+    less = anywhere_less f.events (Signal k c w s) k c w refl (λ b i. refl) (Chooses-waits c w f.events may.fits.1);
+    hand = refl;
+    no_wait = refl;
+    out = refl;
+  }
+  signal_hands f (SignalTo k c w s) is may = record {
+    less = anywhere_less f.events (SignalTo k c w s) k c w refl (λ b i. refl) may.fits.1;
+    hand = refl;
+    no_wait = refl;
+    out = refl;
+  }
+  signal_hands f (Admit k s) is may = absurd (cc)
+  signal_hands f (Wait k c p s) is may = absurd (cc)
+  signal_hands f (Pass k c w s) is may = absurd (cc)
+  signal_hands f (Leave k s) is may = absurd (cc)
+  signal_hands f (Resume k c s) is may = absurd (cc)
+  signal_hands f (Back k s) is may = absurd (cc)
+  signal_hands f (Notify k c w s) is may = absurd (cc)
+  signal_hands f (Broadcast k c s) is may = absurd (cc)
+
   -- from a signal to its return: at most one visit for each process that waits on a condition at the signal, and two
   -- for each signaller that waits then
-  pub few_visits : (h : History S) (f later : List (Event S)) (k c w : ℕ) (s : S) → IsLegal h
-      → h.events ≡ f ++ Signal k c w s ∷ later → own k later ≡ []
+  pub few_visits : (h : History S) (f later : List (Event S)) (e : Event S) → is_signal e ≡ true → IsLegal h
+      → h.events ≡ f ++ e ∷ later → own (place_of e) later ≡ []
       → visits later ≤ length (waiting_anywhere f) + 2 * length (urgent f)
-  few_visits h f later k c w s legal at none =
-      let g : List (Event S) = f ++ Signal k c w s ∷ [] in
-      let whole : h.events ≡ g ++ later = at ∙ sym (append_assoc f (Signal k c w s ∷ []) later) in
-      let may = (legal.each f later (Signal k c w s) at).fits in
-      let is = urgent-signal f k c w s may.0 in
-      let m = meanwhile h g later (urgent f) k [] legal whole is none in
-      let r = stays_while h g later (urgent f) k [] legal whole is none in
+  few_visits h f later e is legal at none =
+      let g : List (Event S) = f ++ e ∷ [] in
+      let whole : h.events ≡ g ++ later = at ∙ sym (append_assoc f (e ∷ []) later) in
+      let may = legal.each f later e at in
+      let now = signalled (cut_to h f) e is may in
+      let takes = signal_hands (cut_to h f) e is may in
+      let m = meanwhile h g later (urgent f) (place_of e) [] legal whole now.now none in
+      let r = stays_while h g later (urgent f) (place_of e) [] legal whole now.now none in
       let many : length (urgent f) ≡ length (returned later) + length m.left =
       length-parts _ (returned later) m.left m.came in
-      let one : handed_last g ≡ 1 = handed-push f (Signal k c w s) in
-      let shut : waited_last g ≡ 0 = waited-push f (Signal k c w s) in
-      let less : length (waiting_anywhere g) + 1 ≤ length (waiting_anywhere f) =
-      anywhere_less f (Signal k c w s) k c w refl (λ b i. refl) (Chooses-waits c w f may.1) in
-      omega (arith, many, one, shut, less, r.begun, r.fed, waited_room (g ++ later))
-
-  -- a place that may signal finds a waiter
-  signal_waits : (f : History S) (k c w : ℕ) (s : S) → Allowed f (Signal k c w s)
-      → 1 ≤ length (waiting_anywhere f.events)
-  signal_waits f k c w s may =
-      let waits = Chooses-waits c w f.events may.fits.1 in
-      let less = anywhere_less f.events (Signal k c w s) k c w refl (λ b i. refl) waits in omega (arith, less)
+      let one : handed_last g ≡ 1 = handed-push f e ∙ ap one_if takes.hand in
+      let shut : waited_last g ≡ 0 = waited-push f e ∙ ap one_if takes.no_wait in
+      omega (arith, many, one, shut, takes.less, r.begun, r.fed, waited_room (g ++ later))
 
   -- so if a place may signal, there are at least two places more than signallers
-  pub signal_room : (f : History S) (k c w : ℕ) (s : S) → IsLegal f → Allowed f (Signal k c w s)
+  pub signal_room : (f : History S) (e : Event S) → is_signal e ≡ true → IsLegal f → Allowed f e
       → length (urgent f.events) + 2 ≤ f.sizes.places
-  signal_room f k c w s legal may =
-      omega (arith, room_for_all f k legal may.fits.0, signal_waits f k c w s may)
+  signal_room f e is legal may =
+      let takes = signal_hands f e is may in let now = signalled f e is may in
+      omega (arith, room_for_all f (place_of e) legal now.held, takes.less)
 
   -- until it returns there are fewer releases than places
-  pub few_releases : (h : History S) (f later : List (Event S)) (k c w : ℕ) (s : S) → IsLegal h
-      → h.events ≡ f ++ Signal k c w s ∷ later → own k later ≡ [] → releases later < h.sizes.places
-  few_releases h f later k c w s legal at none =
-      let room = signal_room (cut_to h f) k c w s (legal_upto h f (Signal k c w s ∷ later) at legal)
-      (legal.each f later (Signal k c w s) at) in
-      omega (arith, room, (signal_bound h f later k c w s legal at none).0)
+  pub few_releases : (h : History S) (f later : List (Event S)) (e : Event S) → is_signal e ≡ true → IsLegal h
+      → h.events ≡ f ++ e ∷ later → own (place_of e) later ≡ [] → releases later < h.sizes.places
+  few_releases h f later e is legal at none =
+      let room = signal_room (cut_to h f) e is (legal_upto h f (e ∷ later) at legal) (legal.each f later e at) in
+      omega (arith, room, (signal_bound h f later e is legal at none).0)
 
   -- until a notified process resumes there are fewer releases than places and signals since together
   pub few_releases_called : (h : History S) (f later us : List (Event S)) (x : Event S) (vs : List (Event S)) (j : ℕ)
@@ -362,14 +383,15 @@ module _ {S : Type 0} where
       omega (arith, room, many, called_at_most h f later us x vs legal at is none)
 
   -- so the visits and three more are at most twice the places
-  pub few_in_all : (h : History S) (f later : List (Event S)) (k c w : ℕ) (s : S) → IsLegal h
-      → h.events ≡ f ++ Signal k c w s ∷ later → own k later ≡ []
+  pub few_in_all : (h : History S) (f later : List (Event S)) (e : Event S) → is_signal e ≡ true → IsLegal h
+      → h.events ≡ f ++ e ∷ later → own (place_of e) later ≡ []
       → visits later + 3 ≤ 2 * h.sizes.places
-  few_in_all h f later k c w s legal at none =
+  few_in_all h f later e is legal at none =
       let g : History S = cut_to h f in
-      let may : Allowed g (Signal k c w s) = legal.each f later (Signal k c w s) at in
-      let room = room_for_all g k (legal_upto h f (Signal k c w s ∷ later) at legal) may.fits.0 in
-      omega (arith, room, signal_waits g k c w s may, few_visits h f later k c w s legal at none)
+      let may : Allowed g e = legal.each f later e at in
+      let takes = signal_hands g e is may in let now = signalled g e is may in
+      let room = room_for_all g (place_of e) (legal_upto h f (e ∷ later) at legal) now.held in
+      omega (arith, room, takes.less, few_visits h f later e is legal at none)
 
   -- 1 if a place is inside, else 0
   unfoldable inside_last : List (Event S) → ℕ
@@ -434,10 +456,10 @@ module _ {S : Type 0} where
   few_events h f later legal at = omega (arith, events_while h f later legal at, inside-one f)
 
   -- after a signal there is one event less
-  pub few_events_behind : (h : History S) (f later : List (Event S)) (k c w : ℕ) (s : S) → IsLegal h
-      → h.events ≡ f ++ Signal k c w s ∷ later → length later ≤ 2 * visits later + notifications later
-  few_events_behind h f later k c w s legal at =
-      let whole : h.events ≡ (f ++ Signal k c w s ∷ []) ++ later =
-      at ∙ sym (append_assoc f (Signal k c w s ∷ []) later) in
-      let out : inside_last (f ++ Signal k c w s ∷ []) ≡ 0 = inside-push f (Signal k c w s) in
-      omega (arith, out, events_while h (f ++ Signal k c w s ∷ []) later legal whole)
+  pub few_events_behind : (h : History S) (f later : List (Event S)) (e : Event S) → is_signal e ≡ true → IsLegal h
+      → h.events ≡ f ++ e ∷ later → length later ≤ 2 * visits later + notifications later
+  few_events_behind h f later e is legal at =
+      let whole : h.events ≡ (f ++ e ∷ []) ++ later = at ∙ sym (append_assoc f (e ∷ []) later) in
+      let takes = signal_hands (cut_to h f) e is (legal.each f later e at) in
+      let out : inside_last (f ++ e ∷ []) ≡ 0 = inside-push f e ∙ ap one_if takes.out in
+      omega (arith, out, events_while h (f ++ e ∷ []) later legal whole)

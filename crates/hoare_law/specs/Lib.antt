@@ -10,3 +10,4 @@ pub mod Growth
 pub mod Internal
 pub mod Admissions
 pub mod Overtaking
+pub mod MesaWaits

@@ -12,13 +12,14 @@ ghost use Rattle.hoare_law.specs.Sizes.{IsHoare, IsMesa};
 ghost use Rattle.hoare_law.specs.Waiting.{priority_of, condition_of, waits_on, is_untouched, waiting, chosen};
 ghost use Rattle.hoare_law.specs.Priorities.{in_order};
 ghost use Rattle.hoare_law.specs.Called.{called};
-ghost use Rattle.hoare_law.specs.Turns.{turn, urgent, inside, outside};
+ghost use Rattle.hoare_law.specs.Turns.{turn, is_signal, urgent, inside, outside};
 ghost use Rattle.hoare_law.specs.Legal.{Allowed, IsLegal};
 ghost use Rattle.hoare_law.specs.Growth.{Begins, AddsTwo};
 ghost use Rattle.hoare_law.specs.Admissions.{admissions};
 ghost use Rattle.hoare_law.specs.Overtaking.{with_events, releases, returned, signals, resumed_called, taken_from};
 ghost use Rattle.hoare_law.specs.Overtaking.{signals_to, waits_below, waiters_up_to, visits, notifications};
 ghost use Rattle.hoare_law.specs.Overtaking.{waiting_anywhere};
+ghost use Rattle.hoare_law.specs.MesaWaits.{MesaWait};
 
 /// After each beginning of a legal history at most one place is inside, by its own last event. After a legal history it
 /// is then that place's turn, and a place whose turn it is isn't outside too (Hoare 1974, Introduction).
@@ -137,9 +138,9 @@ pub fn signallers_return_in_turn<S>()
         → urgent h ≡ before ++ k ∷ behind → All (λ j. j ≢ k) (before ++ behind) }
 {}
 
-/// A signaller with n signallers before it returns right after the (n + 1)-th release of the monitor. The releases are
-/// counted from its signal, or from any later moment at which a process is inside. There are fewer such releases than
-/// places.
+/// A signaller, by a signal to the chosen waiter or to a given place, with n signallers before it returns right after
+/// the (n + 1)-th release of the monitor. The releases are counted from its signal, or from any later moment at which a
+/// process is inside. There are fewer such releases than places.
 pub fn releases_until_return<S>()
     ensures at_most { (h : History S) (later : List (Event S)) (before behind : List ℕ) (k : ℕ)
         → IsLegal (with_events h later) → urgent h.events ≡ before ++ k ∷ behind → own k later ≡ []
@@ -148,17 +149,17 @@ pub fn releases_until_return<S>()
         → IsLegal (with_events h later) → urgent h.events ≡ before ++ k ∷ behind → own k later ≡ []
         → turn h.events ≡ Held j
         → (turn (h.events ++ later) ≡ Return k) ↔ (releases later ≡ length before + 1) }
-    ensures since_its_signal { (h : History S) (later : List (Event S)) (k c w : ℕ) (s : S)
-        → IsLegal (with_events h (Signal k c w s ∷ later)) → own k later ≡ []
-        → (turn (h.events ++ Signal k c w s ∷ later) ≡ Return k)
+    ensures since_its_signal { (h : History S) (later : List (Event S)) (e : Event S) → is_signal e ≡ true
+        → IsLegal (with_events h (e ∷ later)) → own (place_of e) later ≡ []
+        → (turn (h.events ++ e ∷ later) ≡ Return (place_of e))
         ↔ (releases later ≡ length (urgent h.events) + 1) }
     ensures right_after { (h : History S) (k : ℕ) (e : Event S) → turn h.events ≡ Return k → Allowed h e
         → e ≡ Back k (latest_data h) }
-    ensures in_between { (h : History S) (later : List (Event S)) (k c w : ℕ) (s t : S)
-        → IsLegal (with_events h (Signal k c w s ∷ (later ++ Back k t ∷ []))) → own k later ≡ []
+    ensures in_between { (h : History S) (later : List (Event S)) (e : Event S) (t : S) → is_signal e ≡ true
+        → IsLegal (with_events h (e ∷ (later ++ Back (place_of e) t ∷ []))) → own (place_of e) later ≡ []
         → releases later ≡ length (urgent h.events) + 1 }
-    ensures in_all { (h : History S) (later : List (Event S)) (k c w : ℕ) (s : S)
-        → IsLegal (with_events h (Signal k c w s ∷ later)) → own k later ≡ []
+    ensures in_all { (h : History S) (later : List (Event S)) (e : Event S) → is_signal e ≡ true
+        → IsLegal (with_events h (e ∷ later)) → own (place_of e) later ≡ []
         → releases later < h.sizes.places }
 {}
 
@@ -204,20 +205,28 @@ pub fn releases_until_resume<S>()
 {}
 
 /// While a waiter waits on c, with m waiters before it in the order of signals, at most m + l waiters are taken from c.
-/// Here l is how many processes began to wait on c with a lesser priority since. The waiter is the next to be taken
-/// exactly when m + l were taken, if no waiter on c was resumed by a signal to it meanwhile. Of equal priorities the
-/// first to wait is the first to be taken (Hoare 1974, Scheduled Waits).
+/// Here l is how many processes began to wait on c with a lesser priority since. With the waiters still before it those
+/// taken are m + l, less at most one for each waiter on c that was resumed by a signal to it. The waiter is the next to
+/// be taken if m + l were taken, and only then if none was resumed by a signal to it. Of equal priorities the first to
+/// wait is the first to be taken (Hoare 1974, Scheduled Waits). At every moment m is less than the number of places.
 pub fn waiters_taken_in_turn<S>()
-    ensures exact { (c : ℕ) (h : History S) (later before behind : List (Event S)) (x : Event S)
+    ensures within { (c : ℕ) (h : History S) (later before behind : List (Event S)) (x : Event S)
         → IsLegal (with_events h later) → in_order priority_of (waiting c h.events) ≡ before ++ x ∷ behind
-        → is_untouched c x later ≡ true → signals_to c later ≡ 0
+        → is_untouched c x later ≡ true
         → (left joined : List (Event S))
         × (in_order priority_of (waiting c (h.events ++ later)) ≡ left ++ x ∷ joined)
-        × (length left + taken_from c later ≡ length before + waits_below c (priority_of x) later) }
+        × (length left + taken_from c later ≤ length before + waits_below c (priority_of x) later)
+        × (length before + waits_below c (priority_of x) later
+        ≤ length left + taken_from c later + signals_to c later) }
     ensures at_most { (c : ℕ) (h : History S) (later before behind : List (Event S)) (x : Event S)
         → IsLegal (with_events h later) → in_order priority_of (waiting c h.events) ≡ before ++ x ∷ behind
         → is_untouched c x later ≡ true
         → taken_from c later ≤ length before + waits_below c (priority_of x) later }
+    ensures then_next { (c : ℕ) (h : History S) (later before behind : List (Event S)) (x : Event S)
+        → IsLegal (with_events h later) → in_order priority_of (waiting c h.events) ≡ before ++ x ∷ behind
+        → is_untouched c x later ≡ true
+        → taken_from c later ≡ length before + waits_below c (priority_of x) later
+        → chosen c (h.events ++ later) ≡ Some x }
     ensures its_turn { (c : ℕ) (h : History S) (later before behind : List (Event S)) (x : Event S)
         → IsLegal (with_events h later) → in_order priority_of (waiting c h.events) ≡ before ++ x ∷ behind
         → is_untouched c x later ≡ true → signals_to c later ≡ 0
@@ -227,41 +236,47 @@ pub fn waiters_taken_in_turn<S>()
         → waiting c h ≡ longer ++ x ∷ (between ++ y ∷ shorter) → priority_of x ≤ priority_of y
         → chosen c h ≢ Some y }
     ensures plain { (c : ℕ) (later : List (Event S)) → waits_below c 0 later ≡ 0 }
+    ensures few { (c : ℕ) (h : History S) (before behind : List (Event S)) (x : Event S) → IsLegal h
+        → in_order priority_of (waiting c h.events) ≡ before ++ x ∷ behind → length before < h.sizes.places }
 {}
 
-/// While a place is inside, the waiters on all conditions, the signallers, the notified processes and that place are
-/// together at most as many as the monitor has places.
+/// The waiters on all conditions, the signallers and the notified processes are together at most as many as the monitor
+/// has places. While a place is inside, that place is one more of these places.
 pub fn all_have_places<S>()
-    ensures { (h : History S) (k : ℕ) → IsLegal h → turn h.events ≡ Held k
+    ensures always { (h : History S) → IsLegal h
+        → length (waiting_anywhere h.events) + length (urgent h.events) + length (called h.events)
+        ≤ h.sizes.places }
+    ensures while_inside { (h : History S) (k : ℕ) → IsLegal h → turn h.events ≡ Held k
         → length (waiting_anywhere h.events) + length (urgent h.events) + length (called h.events) + 1
         ≤ h.sizes.places }
 {}
 
-/// From its signal until its return a signaller waits for few visits of others: at most one for each process that waits
-/// on a condition at its signal, and two for each signaller that waits then. With n places these are at most 2n - 3
-/// visits. For each visit there are at most two events, and the notifications besides.
+/// From its signal, to the chosen waiter or to a given place, until its return a signaller waits for few visits of
+/// others: at most one for each process that waits on a condition at its signal, and two for each signaller that waits
+/// then. With n places these are at most 2n - 3 visits. For each visit there are at most two events, and the
+/// notifications besides.
 pub fn few_visits_until_return<S>()
-    ensures visits { (h : History S) (later : List (Event S)) (k c w : ℕ) (s : S)
-        → IsLegal (with_events h (Signal k c w s ∷ later)) → own k later ≡ []
+    ensures visits { (h : History S) (later : List (Event S)) (e : Event S) → is_signal e ≡ true
+        → IsLegal (with_events h (e ∷ later)) → own (place_of e) later ≡ []
         → visits later ≤ length (waiting_anywhere h.events) + 2 * length (urgent h.events) }
-    ensures signallers { (h : History S) (k c w : ℕ) (s : S) → IsLegal h → Allowed h (Signal k c w s)
+    ensures signallers { (h : History S) (e : Event S) → is_signal e ≡ true → IsLegal h → Allowed h e
         → length (urgent h.events) + 2 ≤ h.sizes.places }
-    ensures in_all { (h : History S) (later : List (Event S)) (k c w : ℕ) (s : S)
-        → IsLegal (with_events h (Signal k c w s ∷ later)) → own k later ≡ []
+    ensures in_all { (h : History S) (later : List (Event S)) (e : Event S) → is_signal e ≡ true
+        → IsLegal (with_events h (e ∷ later)) → own (place_of e) later ≡ []
         → visits later + 3 ≤ 2 * h.sizes.places }
-    ensures events { (h : History S) (later : List (Event S)) (k c w : ℕ) (s : S)
-        → IsLegal (with_events h (Signal k c w s ∷ later))
+    ensures events { (h : History S) (later : List (Event S)) (e : Event S) → is_signal e ≡ true
+        → IsLegal (with_events h (e ∷ later))
         → length later ≤ 2 * visits later + notifications later }
 {}
 
-/// What the caller of `signal` learns when it returns after a waiter was resumed. Between its signal and its return the
-/// signallers before it returned, in turn, and no other signaller did. The monitor was released once more than they
-/// are; no process was admitted; and few visits began.
+/// What the caller of `signal`, or of a signal to a given place, learns when it returns after a waiter was resumed.
+/// Between its signal and its return the signallers before it returned, in turn, and no other signaller did. The
+/// monitor was released once more than they are; no process was admitted; and few visits began.
 pub fn between_signal_and_return<S>()
-    ensures { (f h : History S) (k c w : ℕ) (s t : S) → IsLegal h
-        → AddsTwo f (Signal k c w s) (Back k t) h
-        → (later : List (Event S)) × (h.events ≡ f.events ++ Signal k c w s ∷ (later ++ Back k t ∷ []))
-        × (own k later ≡ []) × (returned later ≡ urgent f.events)
+    ensures { (f h : History S) (e : Event S) (t : S) → is_signal e ≡ true → IsLegal h
+        → AddsTwo f e (Back (place_of e) t) h
+        → (later : List (Event S)) × (h.events ≡ f.events ++ e ∷ (later ++ Back (place_of e) t ∷ []))
+        × (own (place_of e) later ≡ []) × (returned later ≡ urgent f.events)
         × (releases later ≡ length (urgent f.events) + 1) × (admissions later ≡ 0)
         × (visits later ≤ length (waiting_anywhere f.events) + 2 * length (urgent f.events))
         × (visits later + 3 ≤ 2 * f.sizes.places) }
@@ -278,6 +293,18 @@ pub fn between_wait_and_resume<S>()
         × (own k later ≡ [])
         × (signals_to c later ≡ 0
         → taken_from c later ≡ waiters_up_to c p f.events + waits_below c p later + 1) }
+{}
+
+/// What the caller of `wait` learns when it resumes from a Mesa condition. An event notified it: a notify, when no
+/// waiter was left before it, or a broadcast. Until then as many waiters were taken one by one, or were left before it,
+/// as waited there before it with at most its priority, and as began to wait there later with a lesser priority. From
+/// then on those notified before it resumed, in turn, and no other notified process did. The monitor was released once
+/// for each of these, once for each signaller that waited at the notification and for each signal since, and once more;
+/// and no process was admitted.
+pub fn between_mesa_wait_and_resume<S>()
+    ensures { (f h : History S) (k c p : ℕ) (s t : S) → IsLegal h
+        → IsMesa h.sizes.conditions h.sizes.mesa c → AddsTwo f (Wait k c p s) (Resume k c t) h
+        → MesaWait f h k c p s t }
 {}
 
 /// The admissions between two moments are the difference of `admissions`. So a process that is to be the i-th, counted

@@ -49,8 +49,7 @@ fn entering_places_come_last<S>()
 
 // What the laws of overtaking say if no other process goes first: the monitor returns to a signaller at the first
 // release, and the longest waiter of priority 0 is the next to be taken, whatever processes come and whichever other
-// waiters are resumed by signals to them. (Of those `its_turn` says nothing: the second clause is proved by the lemma
-// `passed` behind that law, and by `plain`.)
+// waiters are resumed by signals to them.
 fn first_goes_first<S>()
     ensures signaller { (h : History S) (later : List (Event S)) (k c w : ℕ) (s : S)
         → IsLegal (with_events h (Signal k c w s ∷ later)) → own k later ≡ [] → urgent h.events ≡ []

@@ -1,5 +1,6 @@
 use Rattle.std.proofs.Common.{refl, ◌∷◌, ◌++◌, []}
-use Rattle.hoare_law.specs.declared.event.Event.TheVariants.{Signal, Back}
+use Rattle.hoare_law.specs.declared.event.Event.TheVariants.{Back}
+use Rattle.hoare_law.specs.Events.{place_of}
 use Rattle.hoare_law.specs.Overtaking.{with_events}
 use Rattle.hoare_law.proofs.Rules.{only_back}
 use Rattle.hoare_law.proofs.Signallers.{given_up-held, signaller_at_most, signaller_bound, signal_bound, signal_between}
@@ -16,17 +17,16 @@ returns-clause-its_turn g c = λ h later before behind j k legal is none held.
     none).1
 
 pub returns-clause-since_its_signal : goal.returns-clause-since_its_signal
-returns-clause-since_its_signal g c = λ h later k d w s legal none.
-    (signal_bound (with_events h (Signal k d w s ∷ later)) h.events later k d w s legal refl none).1
+returns-clause-since_its_signal g c = λ h later e is legal none.
+    (signal_bound (with_events h (e ∷ later)) h.events later e is legal refl none).1
 
 pub returns-clause-in_between : goal.returns-clause-in_between
-returns-clause-in_between g c = λ h later k d w s t legal none.
-    signal_between (with_events h (Signal k d w s ∷ (later ++ Back k t ∷ []))) h.events later [] k d w s t legal refl
-    none
+returns-clause-in_between g c = λ h later e t is legal none.
+    signal_between (with_events h (e ∷ (later ++ Back (place_of e) t ∷ []))) h.events later [] e t is legal refl none
 
 pub returns-clause-in_all : goal.returns-clause-in_all
-returns-clause-in_all g c = λ h later k d w s legal none.
-    few_releases (with_events h (Signal k d w s ∷ later)) h.events later k d w s legal refl none
+returns-clause-in_all g c = λ h later e is legal none.
+    few_releases (with_events h (e ∷ later)) h.events later e is legal refl none
 
 pub returns-clause-right_after : goal.returns-clause-right_after
 returns-clause-right_after g c = λ h k e. only_back h e k

@@ -2,13 +2,22 @@ use Rattle.std.proofs.Common.{refl, arith}
 use Rattle.hoare_law.specs.Overtaking.{with_events, taken_from, waits_below, signals_to}
 use Rattle.hoare_law.specs.Waiting.{priority_of}
 use Rattle.hoare_law.proofs.FirstCome.{first_come}
-use Rattle.hoare_law.proofs.PassedOver.{passed, passed_chosen, waits_below-zero}
+use Rattle.hoare_law.proofs.PassedOver.{passed, passed_next, passed_chosen, waits_below-zero}
+use Rattle.hoare_law.proofs.Room.{few_before}
 use Rattle.hoare_law.proofs.laws.waiters_taken_in_turn.Goals as goal
 
-pub returns-clause-exact : goal.returns-clause-exact
-returns-clause-exact g c = λ d h later before behind x legal is apart none.
+pub returns-clause-within : goal.returns-clause-within
+returns-clause-within g c = λ d h later before behind x legal is apart.
     let r = passed d (with_events h later) h.events later before x behind legal refl is apart in
-    (r.before, r.behind, r.now, omega (arith, none, r.few, r.counts))
+    (r.before, r.behind, r.now, omega (arith, r.counts), omega (arith, r.few, r.counts))
+
+pub returns-clause-then_next : goal.returns-clause-then_next
+returns-clause-then_next g c = λ d h later before behind x legal is apart all.
+    passed_next d (with_events h later).events before x (taken_from d later) (waits_below d (priority_of x) later)
+    (signals_to d later) (passed d (with_events h later) h.events later before x behind legal refl is apart) all
+
+pub returns-clause-few : goal.returns-clause-few
+returns-clause-few g c = few_before
 
 pub returns-clause-at_most : goal.returns-clause-at_most
 returns-clause-at_most g c = λ d h later before behind x legal is apart.

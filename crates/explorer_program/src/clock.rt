@@ -6,28 +6,10 @@ use std::alloc::Global;
 use std::sync::Wait;
 use timed_schedulers::alarm::Alarm;
 
-/// Places 0 and 1 sleep for a tick. Place 2 ticks twice, maybe before they set their alarms.
+/// Places 0 and 1 sleep for a tick. Place 2 ticks twice, maybe before they set their alarms. The answer of each is 1 if
+/// its last call wasn't refused, else 0.
 #[derive(Clone, Copy)]
 pub struct Sleepers;
-
-// Does the part of thread `number`. The answer is 1 if its last call wasn't refused, else 0.
-fn sleep_or_tick<R: Wait, M: Monitor<Alarm>>(
-    rt: &R,
-    m: &M,
-    out: M::Out,
-    number: usize,
-) -> (M::Out, u64)
-    requires { M.is_of m.now out }
-    ensures { M.is_of m.now result.0 }
-{
-    if number < 2 {
-        let (out, woken) = Alarm::wakeme(m, rt, out, 1);
-        return (out, u64::from(woken.is_ok()));
-    }
-    let (out, _first) = Alarm::tick(m, rt, out);
-    let (out, second) = Alarm::tick(m, rt, out);
-    (out, u64::from(second.is_ok()))
-}
 
 impl Program<Alarm, Explored<Alarm>> for Sleepers {
     fn threads(&self) -> usize {
@@ -48,7 +30,13 @@ impl Program<Alarm, Explored<Alarm>> for Sleepers {
         requires { ⟦<Explored<Alarm> as Monitor<Alarm>>⟧.is_of m.now out }
         ensures { ⟦<Explored<Alarm> as Monitor<Alarm>>⟧.is_of m.now result.0 }
     {
-        sleep_or_tick(rt, m, out, number)
+        if number < 2 {
+            let (out, woken) = Alarm::wakeme(m, rt, out, 1);
+            return (out, u64::from(woken.is_ok()));
+        }
+        let (out, _first) = Alarm::tick(m, rt, out);
+        let (out, second) = Alarm::tick(m, rt, out);
+        (out, u64::from(second.is_ok()))
     }
 
     fn is_right(&self, _left: &Alarm, answers: &[u64]) -> bool {

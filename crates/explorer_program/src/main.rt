@@ -6,9 +6,7 @@
 mod arguments;
 mod clock;
 mod digits;
-mod gate;
 mod hidden_state;
-mod lost_update;
 mod lost_wake;
 mod outcome;
 mod report;
@@ -32,40 +30,10 @@ use std::thread::Threads;
 // Three threads of two visits. A run has 6 choices and 12 steps, and there are 90 orders.
 const VISITS: OfTally = OfTally::Digits(3, 2, None);
 
-// Tries programs over a tally, each with its name and its limits.
+// Tries the programs over a tally: two whose orders are all right, those that have a bad order, the visits with limits
+// that are too low by one, six threads of `OfTally::Dance` with a limit of 4 steps that a process waits, and at most
+// fifty drawn orders of the visits.
 fn tell_tallies<R: Threads + Wait + Print + Eprint + Copy + Send + 'static>(
-    teller: &mut Teller<R>,
-    programs: &[(&str, OfTally, Limits)],
-) {
-    for (name, acts, limits) in programs {
-        teller.tell(*name, *limits, &Tallied::of(*acts));
-    }
-}
-
-// Tries two programs whose orders are all right, and those over a tally that have a bad order.
-fn tell_plain<R: Threads + Wait + Print + Eprint + Copy + Send + 'static>(
-    teller: &mut Teller<R>,
-    usual: Limits,
-) {
-    let programs = [
-        ("visits", VISITS, usual),
-        ("all-called", OfTally::Called(true), usual),
-        ("lost-wake", OfTally::Called(false), usual),
-        ("gate", OfTally::Gate, usual),
-        ("starving", OfTally::Dance(3), usual),
-        ("lost", OfTally::Lost, usual),
-        ("late-wait", OfTally::Try, usual),
-        ("wrong-last", OfTally::Digits(4, 2, None), usual),
-        ("stuck-last", OfTally::Digits(5, 1, Some(5_432)), usual),
-        ("hidden", OfTally::Hidden, usual),
-        ("hidden-others", OfTally::HiddenOthers, usual),
-    ];
-    tell_tallies(teller, &programs);
-}
-
-// Tries the visits with limits that are too low by one, and six threads of `OfTally::Dance` with a limit of 4 steps that
-// a process waits. Draws at most fifty orders of the visits.
-fn tell_limits<R: Threads + Wait + Print + Eprint + Copy + Send + 'static>(
     teller: &mut Teller<R>,
     usual: Limits,
     drawn: Limits,
@@ -74,23 +42,23 @@ fn tell_limits<R: Threads + Wait + Print + Eprint + Copy + Send + 'static>(
         patience: 4,
         ..usual
     };
-    let programs = [
+    for (name, acts, limits) in &[
+        ("visits", VISITS, usual),
+        ("all-called", OfTally::Called(true), usual),
+        ("lost-wake", OfTally::Called(false), usual),
+        ("starving", OfTally::Dance(3), usual),
+        ("starving-6", OfTally::Dance(6), starving),
+        ("late-wait", OfTally::Try, usual),
+        ("wrong-last", OfTally::Digits(4, 2, None), usual),
+        ("stuck-last", OfTally::Digits(5, 1, Some(5_432)), usual),
+        ("hidden", OfTally::Hidden, usual),
+        ("hidden-others", OfTally::HiddenOthers, usual),
         ("few-runs", VISITS, Limits { runs: 89, ..usual }),
         ("few-steps", VISITS, Limits { steps: 11, ..usual }),
         ("few-choices", VISITS, Limits { depth: 5, ..usual }),
-        ("starving-6", OfTally::Dance(6), starving),
         ("drawn", VISITS, drawn),
-    ];
-    tell_tallies(teller, &programs);
-}
-
-// Tries the alarm clock, each time with a name and limits.
-fn tell_alarms<R: Threads + Wait + Print + Eprint + Copy + Send + 'static>(
-    teller: &mut Teller<R>,
-    rows: &[(&str, Limits)],
-) {
-    for (name, limits) in rows {
-        teller.tell(*name, *limits, &Sleepers);
+    ] {
+        teller.tell(*name, *limits, &Tallied::of(*acts));
     }
 }
 
@@ -107,14 +75,10 @@ fn main(rt: HostRuntime) -> io::Result<()> {
         ..usual
     };
     let mut teller = Teller::of(rt, rt.alloc(), arguments);
-    tell_plain(&mut teller, usual);
+    tell_tallies(&mut teller, usual, drawn);
     teller.tell("weak-barrier", usual, &Weak);
     teller.tell("hungry", hungry, &Supper);
-    // (the first drawn order isn't bad)
-    tell_alarms(
-        &mut teller,
-        &[("late-alarm", usual), ("drawn-alarm", drawn)],
-    );
-    tell_limits(&mut teller, usual, drawn);
+    teller.tell("late-alarm", usual, &Sleepers);
+    teller.tell("drawn-alarm", drawn, &Sleepers); // (the first drawn order isn't bad)
     teller.end()
 }

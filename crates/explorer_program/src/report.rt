@@ -45,9 +45,9 @@ impl<R: Threads + Wait + Print + Eprint + Copy + Send + 'static> Teller<R> {
             return;
         }
         if self.asked.asks(name) {
-            self.told = tell_alone(self.rt, self.alloc, limits, name, program);
+            self.told = self.tell_alone(limits, name, program);
         } else if self.asked.is_all() {
-            self.told = tell_on_both(self.rt, self.alloc, limits, name, program);
+            self.told = self.tell_on_both(limits, name, program);
         }
     }
 
@@ -55,48 +55,56 @@ impl<R: Threads + Wait + Print + Eprint + Copy + Send + 'static> Teller<R> {
     pub fn end(self) -> io::Result<()> {
         self.told
     }
-}
 
-// Tries all orders of a program, or, if a script is given, that order alone. Returns the outcome.
-fn outcome_of<
-    R: Threads + Wait + Copy + Send + 'static,
-    D: MonitorData + Send + Drop + 'static,
-    P: Program<D, Explored<D>> + Clone + 'static,
->(rt: R, alloc: Global, limits: Limits, script: Option<&str>, program: &P) -> io::Result<Outcome> {
-    let program = program.clone()?;
-    let found = match script {
-        None => explore(rt, alloc, program, limits)?,
-        Some(script) => explore_again(rt, alloc, program, script, limits)?,
-    };
-    Outcome::of(alloc, &found)
-}
+    // Tries all orders of a program, or, if a script is given, that order alone. Returns the outcome.
+    fn outcome_of<
+        D: MonitorData + Send + Drop + 'static,
+        P: Program<D, Explored<D>> + Clone + 'static,
+    >(&self, limits: Limits, script: Option<&str>, program: &P) -> io::Result<Outcome> {
+        let program = program.clone()?;
+        let found = match script {
+            None => explore(self.rt, self.alloc, program, limits)?,
+            Some(script) => explore_again(self.rt, self.alloc, program, script, limits)?,
+        };
+        Outcome::of(self.alloc, &found)
+    }
 
-// Tries a program. Prints the outcome to standard error, and to standard output the script of the bad order, or of the
-// last run that met a limit.
-fn tell_alone<
-    R: Threads + Wait + Print + Eprint + Copy + Send + 'static,
-    D: MonitorData + Send + Drop + 'static,
-    P: Program<D, Explored<D>> + Clone + 'static,
->(rt: R, alloc: Global, limits: Limits, name: &str, program: &P) -> io::Result<()> {
-    let outcome = outcome_of(rt, alloc, limits, None, program)?;
-    let words = outcome.words.as_str();
-    let script = outcome.script.as_str();
-    eprint!(&rt; "{name}: {words}")?;
-    print!(&rt; "{script}")
-}
+    // Tries a program. Prints the outcome to standard error, and to standard output the script of the bad order, or of
+    // the last run that met a limit.
+    fn tell_alone<
+        D: MonitorData + Send + Drop + 'static,
+        P: Program<D, Explored<D>> + Clone + 'static,
+    >(&self, limits: Limits, name: &str, program: &P) -> io::Result<()> {
+        let outcome = self.outcome_of(limits, None, program)?;
+        let words = outcome.words.as_str();
+        let script = outcome.script.as_str();
+        eprint!(&self.rt; "{name}: {words}")?;
+        print!(&self.rt; "{script}")
+    }
 
-// Tries a program on both doors, and prints the outcomes. Then runs its bad order again.
-fn tell_on_both<
-    R: Threads + Wait + Print + Copy + Send + 'static,
-    D: MonitorData + Send + Drop + 'static,
-    P: Program<D, Explored<D>> + Clone + 'static,
->(rt: R, alloc: Global, limits: Limits, name: &str, program: &P) -> io::Result<()> {
-    let baton = outcome_of(rt, alloc, limits, None, program)?;
-    let door = DoorKind::Ticket;
-    let ticket = outcome_of(rt, alloc, Limits { door, ..limits }, None, program)?;
-    tell_both(&rt, name, baton.words.as_str(), ticket.words.as_str())?;
-    tell_script(&rt, name, baton.script.as_str())?;
-    tell_again(rt, alloc, limits, &baton, program)
+    // Tries a program on both doors, and prints the outcomes, and the script of the bad order of `WITH_SCRIPT`. Then
+    // runs the bad order again alone, and prints a line if it ends otherwise.
+    fn tell_on_both<
+        D: MonitorData + Send + Drop + 'static,
+        P: Program<D, Explored<D>> + Clone + 'static,
+    >(&self, limits: Limits, name: &str, program: &P) -> io::Result<()> {
+        let baton = self.outcome_of(limits, None, program)?;
+        let door = DoorKind::Ticket;
+        let ticket = self.outcome_of(Limits { door, ..limits }, None, program)?;
+        tell_both(&self.rt, name, baton.words.as_str(), ticket.words.as_str())?;
+        let script = baton.script.as_str();
+        if name == WITH_SCRIPT {
+            print!(&self.rt; "{script}")?;
+        }
+        if baton.ending.is_some()
+            && !self
+                .outcome_of(limits, Some(script), program)?
+                .is_as(&baton)
+        {
+            return println!(&self.rt; "    the order alone ends otherwise");
+        }
+        Ok(())
+    }
 }
 
 // Prints the outcomes on both doors, or one of them if they are the same.
@@ -106,29 +114,4 @@ fn tell_both<R: Print>(rt: &R, name: &str, baton: &str, ticket: &str) -> io::Res
     }
     print!(rt; "{name}, by a baton: {baton}")?;
     print!(rt; "{name}, by tickets: {ticket}")
-}
-
-// Prints the script of the bad order, if it is that of `WITH_SCRIPT`.
-fn tell_script<R: Print>(rt: &R, name: &str, script: &str) -> io::Result<()> {
-    if name == WITH_SCRIPT {
-        return print!(rt; "{script}");
-    }
-    Ok(())
-}
-
-// If there is a bad order, runs it again alone, and prints a line if it ends otherwise.
-fn tell_again<
-    R: Threads + Wait + Print + Copy + Send + 'static,
-    D: MonitorData + Send + Drop + 'static,
-    P: Program<D, Explored<D>> + Clone + 'static,
->(rt: R, alloc: Global, limits: Limits, outcome: &Outcome, program: &P) -> io::Result<()> {
-    if outcome.ending.is_none() {
-        return Ok(());
-    }
-    let script = Some(outcome.script.as_str());
-    let again = outcome_of(rt, alloc, limits, script, program)?;
-    if again.is_as(outcome) {
-        return Ok(());
-    }
-    println!(&rt; "    the order alone ends otherwise")
 }

@@ -1,9 +1,7 @@
 //! Programs over a number of which nothing is required. What the threads of each program do is in its own file.
 
 use crate::digits::{LAST_OF_FOUR, write_digits};
-use crate::gate::pass_or_open;
 use crate::hidden_state::{visit_again, visit_by_turns};
-use crate::lost_update::add_late;
 use crate::lost_wake::pass_or_notify;
 use crate::starving::dance;
 use crate::trying::try_or_ask;
@@ -61,14 +59,10 @@ pub enum OfTally {
     /// This many threads visit this many times each, and append their digits. If a thread finds this number, it waits.
     /// The last order of four threads of two visits is wrong.
     Digits(usize, u32, Option<u64>),
-    /// Places 0 and 1 pass a gate that place 2 opens.
-    Gate,
     /// Places 0 and 1 pass a gate that place 2 opens: it notifies all waiters if this is true, else one.
     Called(bool),
     /// Of this many threads the first two resume each other, the last waits to be resumed, and the others visit once.
     Dance(usize),
-    /// Two threads add 1 each, in two visits.
-    Lost,
     /// Three threads visit once, but the first visits twice in each second run.
     Hidden,
     /// Two of three threads visit, and in each second run another two.
@@ -114,10 +108,8 @@ fn acts<R: Wait, M: Monitor<Tally>>(
 {
     match program.acts {
         OfTally::Digits(_, visits, bad) => write_digits(rt, m, out, visits, number, bad),
-        OfTally::Gate => pass_or_open(rt, m, out, number),
         OfTally::Called(all) => pass_or_notify(rt, m, out, number, all),
         OfTally::Dance(threads) => dance(rt, m, out, number, threads),
-        OfTally::Lost => add_late(rt, m, out),
         OfTally::Hidden => visit_again(rt, m, out, number, &program.runs),
         OfTally::HiddenOthers => visit_by_turns(rt, m, out, number, &program.runs),
         OfTally::Try => try_or_ask(rt, m, out, number),
@@ -128,7 +120,6 @@ impl Program<Tally, Explored<Tally>> for Tallied {
     fn threads(&self) -> usize {
         match self.acts {
             OfTally::Digits(threads, ..) | OfTally::Dance(threads) => threads,
-            OfTally::Lost => 2,
             _ => 3,
         }
     }
@@ -153,7 +144,6 @@ impl Program<Tally, Explored<Tally>> for Tallied {
     fn is_right(&self, left: &Tally, _answers: &[u64]) -> bool {
         match self.acts {
             OfTally::Digits(..) => left.value != LAST_OF_FOUR,
-            OfTally::Lost => left.value == 2,
             OfTally::Try => left.value == 112,
             _ => true,
         }

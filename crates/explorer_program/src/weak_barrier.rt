@@ -84,24 +84,6 @@ impl WeakBarrier {
 #[derive(Clone, Copy)]
 pub struct Weak;
 
-// Does the part of the thread with this number.
-fn acts<R: Wait, M: Monitor<WeakBarrier>>(
-    rt: &R,
-    m: &M,
-    out: M::Out,
-    number: usize,
-) -> (M::Out, u64)
-    requires { M.is_of m.now out }
-    ensures { M.is_of m.now result.0 }
-{
-    let out = if number == 0 {
-        WeakBarrier::withdraw(m, rt, out)
-    } else {
-        WeakBarrier::arrive(m, rt, out)
-    };
-    (out, 0)
-}
-
 impl Program<WeakBarrier, Explored<WeakBarrier>> for Weak {
     fn threads(&self) -> usize {
         3
@@ -124,7 +106,10 @@ impl Program<WeakBarrier, Explored<WeakBarrier>> for Weak {
         requires { ⟦<Explored<WeakBarrier> as Monitor<WeakBarrier>>⟧.is_of m.now out }
         ensures { ⟦<Explored<WeakBarrier> as Monitor<WeakBarrier>>⟧.is_of m.now result.0 }
     {
-        acts(rt, m, out, number)
+        match number {
+            0 => (WeakBarrier::withdraw(m, rt, out), 0),
+            _ => (WeakBarrier::arrive(m, rt, out), 0),
+        }
     }
 
     fn is_right(&self, _left: &WeakBarrier, _answers: &[u64]) -> bool {

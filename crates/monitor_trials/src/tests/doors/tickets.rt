@@ -81,83 +81,23 @@ fn tickets_from<R: Wait + Abort>(
     (door.close(back).value, tickets)
 }
 
-/// The tickets of 64 places whose first ticket is 2^64 - 3.
-const PAST_THE_LAST: [u64; 64] = [
-    18446744073709551613,
-    18446744073709551614,
-    18446744073709551615,
-    0,
-    1,
-    2,
-    3,
-    4,
-    5,
-    6,
-    7,
-    8,
-    9,
-    10,
-    11,
-    12,
-    13,
-    14,
-    15,
-    16,
-    17,
-    18,
-    19,
-    20,
-    21,
-    22,
-    23,
-    24,
-    25,
-    26,
-    27,
-    28,
-    29,
-    30,
-    31,
-    32,
-    33,
-    34,
-    35,
-    36,
-    37,
-    38,
-    39,
-    40,
-    41,
-    42,
-    43,
-    44,
-    45,
-    46,
-    47,
-    48,
-    49,
-    50,
-    51,
-    52,
-    53,
-    54,
-    55,
-    56,
-    57,
-    58,
-    59,
-    60,
-];
+// Fails the test unless the tickets are `first` and the next ones, modulo 2^64, and each place has added one.
+fn take_turns<R: Wait + Abort>(rt: &R, alloc: Global, first: u64, places: usize)
+    requires { places ≤ 64 }
+{
+    let (left, tickets) = tickets_from(rt, alloc, first, places);
+    for (i, ticket) in tickets.iter().enumerate() {
+        expect_same(rt, *ticket, first.wrapping_add(i as u64));
+    }
+    expect_same(rt, (left, tickets.len()), (places as u64, places));
+}
 
 #[test]
 fn tickets_in_turn(host: HostRuntime) {
     let (rt, alloc) = (&host, host.alloc());
-    let rows: &[&[u64]] = &[&[0, 1, 2], &[18446744073709551615, 0, 1], &PAST_THE_LAST];
-    for wanted in rows {
-        let (left, tickets) = tickets_from(rt, alloc, wanted[0], wanted.len());
-        expect_same(rt, tickets.as_slice(), *wanted);
-        expect_same(rt, left, wanted.len() as u64);
-    }
+    take_turns(rt, alloc, 0, 3);
+    take_turns(rt, alloc, u64::MAX, 3);
+    take_turns(rt, alloc, u64::MAX - 2, 64);
 }
 
 // Places a and b take tickets, enter by them and leave. Then a enters again, leaves with a signal on a condition

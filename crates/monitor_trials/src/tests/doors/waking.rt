@@ -15,22 +15,22 @@ use std::time::{CpuClock, Duration, Instant};
 use std::{hint, thread};
 use test_support::tally::{Tally, add_one, write_digit};
 
-/// CPU time in milliseconds: a place that sleeps in a call uses less than this for it.
-const AWAKE: u64 = 30;
+/// CPU time in microseconds: a place that sleeps in a call uses less than this for it.
+const AWAKE: u64 = 30_000;
 
 /// How long each place keeps the other in its call, in milliseconds.
 const ASLEEP: u64 = 300;
 
-// Returns the CPU time that this thread has used, in milliseconds. Fails the test if there is no clock.
+// Returns the CPU time that this thread has used, in microseconds. Fails the test if there is no clock.
 fn spent<R: Abort, C: CpuClock>(rt: &R, clock: &C) -> u64 {
     let Ok(time) = clock.thread_cpu_time() else {
         panic!(rt; "no clock")
     };
-    u64::try_from(time.as_millis()).unwrap_or(u64::MAX)
+    u64::try_from(time.as_micros()).unwrap_or(u64::MAX)
 }
 
-// Returns 0 if this thread slept since it had used `before` milliseconds of CPU time. Otherwise returns the CPU time
-// since then, in milliseconds.
+// Returns 0 if this thread slept since it had used `before` microseconds of CPU time. Otherwise returns the CPU time
+// since then, in microseconds.
 fn awake_since<R: Abort, C: CpuClock>(rt: &R, clock: &C, before: u64) -> u64 {
     let took = spent(rt, clock).saturating_sub(before);
     if took < AWAKE { 0 } else { took }
@@ -42,7 +42,7 @@ fn pause<R: Clock>(rt: &R, millis: u64) {
 
 /// Place 0 waits, then stays inside for `ASLEEP` milliseconds and writes 1. Place 1 lets it wait for as long, signals,
 /// and writes 2 when it is back. Each returns 0 if it slept in its call by this clock, otherwise the CPU time of the
-/// call in milliseconds.
+/// call in microseconds.
 #[derive(Drop)]
 struct WaitsLong<'a, C: CpuClock + Sync>(&'a C);
 
@@ -83,18 +83,10 @@ fn who_waits_and_who_signals_sleep(host: HostRuntime) {
 
 /// CPU time in microseconds: an entering thread that sleeps until it is woken uses less than this for its call. One
 /// that sleeps by a timer of a tenth of a millisecond uses more: it wakes some 2,000 times in `ASLEEP` milliseconds.
-const ENTERING: u128 = 2000;
+const ENTERING: u64 = 2000;
 
 /// How long after the leave the entering thread is inside at most, in milliseconds.
 const LATE: u128 = 1000;
-
-// Returns the CPU time that this thread has used, in microseconds. Fails the test if there is no clock.
-fn spent_micros<R: Abort, C: CpuClock>(rt: &R, clock: &C) -> u128 {
-    let Ok(time) = clock.thread_cpu_time() else {
-        panic!(rt; "no clock")
-    };
-    time.as_micros()
-}
 
 // Enters. Returns the place, and 0 if it used less than `ENTERING` microseconds of CPU time for the call, and the call
 // took less than `ASLEEP` and `LATE` milliseconds. Otherwise returns 1.
@@ -108,12 +100,12 @@ fn sleeps_until_in<R: Wait + Abort + Clock, C: CpuClock, M: Monitor<Tally>>(
     ensures of { M.is_of_in m.now result.0 }
     ensures place { M.place_in result.0 ≡ M.place out }
 {
-    let before = spent_micros(rt, clock);
+    let before = spent(rt, clock);
     let Ok(start) = Instant::now(rt) else {
         panic!(rt; "no clock")
     };
     let inside = m.enter(rt, out);
-    let used = spent_micros(rt, clock).saturating_sub(before);
+    let used = spent(rt, clock).saturating_sub(before);
     let Ok(took) = start.elapsed(rt) else {
         panic!(rt; "no clock")
     };

@@ -92,33 +92,19 @@ fn an_attempt_enters(host: HostRuntime) {
     expect_same(rt, came, true);
 }
 
-// Takes both items out. The second item goes into the first monitor: there the first item is then refused, and the
-// second is taken. The first item goes into the second monitor.
-fn change_items<R: Wait + Abort, M: Monitor<Single<u64>>>(
-    rt: &R,
-    first: &M,
-    out: M::Out,
-    second: &M,
-    other: M::Out,
-)
-    requires of_first { M.is_of first.now out }
-    requires of_second { M.is_of second.now other }
-{
-    let out = calls_single(rt, first, out, Acquires(7));
-    let other = calls_single(rt, second, other, Acquires(8));
-    let out = calls_single(rt, first, out, Releases(8));
-    let out = calls_single(rt, first, out, IsRefused(7));
-    calls_single(rt, first, out, Acquires(8));
-    calls_single(rt, second, other, Releases(7));
-}
-
-// An item isn't bound to the monitor that it came from.
+// An item isn't bound to the monitor that it came from: the second goes into the first monitor, where the first is then
+// refused, and the first into the second.
 #[test]
 fn items_change_monitors(host: HostRuntime) {
     let (rt, alloc) = (&host, host.alloc());
     let (first, out) = with_answers(rt, alloc, Single::with(7), []);
     let (second, other) = with_answers(rt, alloc, Single::with(8), []);
-    change_items(rt, &first, out, &second, other);
+    let out = calls_single(rt, &first, out, Acquires(7));
+    let other = calls_single(rt, &second, other, Acquires(8));
+    let out = calls_single(rt, &first, out, Releases(8));
+    let out = calls_single(rt, &first, out, IsRefused(7));
+    calls_single(rt, &first, out, Acquires(8));
+    calls_single(rt, &second, other, Releases(7));
 }
 
 // A process waits for stream 1 until a buffer is free, and finds a pool that has no stream 1.

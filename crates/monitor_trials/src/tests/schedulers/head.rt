@@ -28,24 +28,6 @@ pub enum HeadCall {
 
 use HeadCall::{IsRefused, Releases, Requests, Stays};
 
-// Attempts to put the drive in. Returns the drive if it is given back.
-fn releases<R: Wait, M: Monitor<Head<u64>>>(
-    rt: &R,
-    m: &M,
-    out: M::Out,
-    drive: u64,
-) -> (M::Out, Option<u64>)
-    requires { M.is_of m.now out }
-    ensures of { M.is_of m.now result.0 }
-    ensures place { M.place result.0 ≡ M.place out }
-{
-    let (out, released) = Head::release(m, rt, out, drive);
-    match released {
-        Ok(()) => (out, None),
-        Err(NotOut { item }) => (out, Some(item)),
-    }
-}
-
 /// Makes the call. Fails the test unless it returns what it must.
 pub fn calls_head<R: Wait + Abort, M: Monitor<Head<u64>>>(
     rt: &R,
@@ -57,28 +39,27 @@ pub fn calls_head<R: Wait + Abort, M: Monitor<Head<u64>>>(
     ensures of { M.is_of m.now result }
     ensures place { M.place result ≡ M.place out }
 {
-    match call {
+    let (drive, wanted) = match call {
         Requests(cylinder, wanted) => {
             let (out, granted) = Head::request(m, rt, out, cylinder);
             expect_same(rt, granted, wanted);
-            out
+            return out;
         }
         Stays(wanted) => {
             let inside = m.enter(rt, out);
             expect_same(rt, m.state(&inside).stay(), wanted);
-            m.leave(rt, inside)
+            return m.leave(rt, inside);
         }
-        Releases(drive) => {
-            let (out, back) = releases(rt, m, out, drive);
-            expect_same(rt, back, None);
-            out
-        }
-        IsRefused(drive) => {
-            let (out, back) = releases(rt, m, out, drive);
-            expect_same(rt, back, Some(drive));
-            out
-        }
-    }
+        Releases(drive) => (drive, None),
+        IsRefused(drive) => (drive, Some(drive)),
+    };
+    let (out, released) = Head::release(m, rt, out, drive);
+    let back = match released {
+        Ok(()) => None,
+        Err(NotOut { item }) => Some(item),
+    };
+    expect_same(rt, back, wanted);
+    out
 }
 
 impl Call<Head<u64>> for HeadCall {

@@ -176,34 +176,9 @@ fn reads_most<R: Wait + Abort, M: Monitor<Shared>>(
     ends_read(rt, m, out, pass)
 }
 
-// Attempts to end a read while no reader is in, with a pass of the monitor `other`. Fails the test unless the pass is
-// given back, and ends the read at `other`.
-fn is_no_reader<R: Wait + Abort, M: Monitor<Shared>, N: Monitor<Shared>>(
-    rt: &R,
-    m: &M,
-    out: M::Out,
-    other: &N,
-    place: N::Out,
-    alloc: Global,
-) -> M::Out
-    requires of { M.is_of m.now out }
-    requires other { N.is_of other.now place }
-    ensures of { M.is_of m.now result }
-    ensures place { M.place result ≡ M.place out }
-{
-    let (place, pass) = starts_read(rt, other, place, 8);
-    let (out, ended) = ReadersWriters::end_read(m, rt, out, pass);
-    let Err(refused) = ended else {
-        panic!(rt; "a reader was in")
-    };
-    reads_as(rt, alloc, &refused, "no reader is in");
-    let NoReader { pass } = refused;
-    ends_read(rt, other, place, pass);
-    out
-}
-
-// Attempts to end a read while no reader is in. The pass is of a monitor for tests.
-fn is_no_reader_of_a_fake<R: Wait + Abort, M: Monitor<Shared>>(
+// Attempts to end a read while no reader is in, with a pass of a monitor for tests. Fails the test unless the pass is
+// given back, and ends the read at its own monitor.
+fn is_no_reader<R: Wait + Abort, M: Monitor<Shared>>(
     rt: &R,
     m: &M,
     out: M::Out,
@@ -214,7 +189,15 @@ fn is_no_reader_of_a_fake<R: Wait + Abort, M: Monitor<Shared>>(
     ensures place { M.place result ≡ M.place out }
 {
     let (other, place) = with_answers(rt, alloc, ReadersWriters::with(8), []);
-    is_no_reader(rt, m, out, &other, place, alloc)
+    let (place, pass) = starts_read(rt, &other, place, 8);
+    let (out, ended) = ReadersWriters::end_read(m, rt, out, pass);
+    let Err(refused) = ended else {
+        panic!(rt; "a reader was in")
+    };
+    reads_as(rt, alloc, &refused, "no reader is in");
+    let NoReader { pass } = refused;
+    ends_read(rt, &other, place, pass);
+    out
 }
 
 impl Call<Shared> for SharedCall {
@@ -241,7 +224,7 @@ impl Call<Shared> for SharedCall {
             ReadsMost(value, waiting) => {
                 reads_most(rt, m, out, turns, MOST_READERS, value, waiting)
             }
-            IsNoReader(alloc) => is_no_reader_of_a_fake(rt, m, out, alloc),
+            IsNoReader(alloc) => is_no_reader(rt, m, out, alloc),
         }
     }
 }

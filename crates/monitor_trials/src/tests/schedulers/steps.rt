@@ -85,8 +85,8 @@ impl<'a, 'b, C> Steps<'a, 'b, C> {
     }
 }
 
-// Enters, counts the processes that wait, and leaves.
-fn count<D: MonitorData, R: Wait, M: Monitor<D>>(rt: &R, m: &M, out: M::Out) -> (M::Out, usize)
+/// Enters, counts the processes that wait on all conditions together, and leaves.
+pub fn count<D: MonitorData, R: Wait, M: Monitor<D>>(rt: &R, m: &M, out: M::Out) -> (M::Out, usize)
     requires { M.is_of m.now out }
     ensures of { M.is_of m.now result.0 }
     ensures place { M.place result.0 ≡ M.place out }

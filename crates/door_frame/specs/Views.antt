@@ -22,9 +22,9 @@ module _ {D : Type 0} where
   abbrev pub alone : ℕ → History D → SeatView D
   alone k f = sole k f None
 
-  -- the view of the seat of one place that is queued, with the ticket x
-  abbrev pub asking : ℕ → History D → ℕ → SeatView D
-  asking k f x = sole k f (Some (Ticket x))
+  -- the view of the seat of one place that is queued, with the ticket after those of the places `before`
+  abbrev pub asking : ℕ → History D → List ℕ → SeatView D
+  asking k f before = sole k f (Some (Ticket before))
 
   -- the view of the seat of one place that attempts to enter, and shut the gate when its word was v
   abbrev pub trying : ℕ → History D → ℕ → SeatView D

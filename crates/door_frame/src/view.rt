@@ -4,9 +4,9 @@ use std::collections::LinkedList;
 
 /// What an entering place has of the door before it is inside.
 pub enum Token {
-    /// The ticket that the place took: it is queued, and isn't inside yet. Tickets are counted from 0 here and never
-    /// wrap.
-    Ticket(u64),
+    /// The ticket that the place took: it is queued, and isn't inside yet. The list has the places that took the
+    /// tickets before it, in order, since the door was opened.
+    Ticket(LinkedList<usize>),
     /// The gate, which the place shut when the word had this value: it attempts to enter.
     Gate(u64),
 }

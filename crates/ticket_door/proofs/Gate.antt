@@ -1,5 +1,5 @@
 -- The holder of the gate, and the tokens then.
-use Rattle.std.proofs.Common.{◌≡◌, ◌≢◌, ℕ, ◌+◌, eqb, cond, List, [], ◌∷◌, ◌++◌, length, Option, Some, None, sym}
+use Rattle.std.proofs.Common.{◌≡◌, ◌≢◌, ℕ, ◌+◌, eqb, cond, List, [], ◌∷◌, ◌++◌, Option, Some, None, sym}
 use Rattle.std.proofs.Common.{ap, ◌∙◌, subst, arith, eq-eqb, ne_eqb}
 use mathlib.Core.Logic.{dite}
 use native.Mathlib.Decide.{ℕ_discrete}
@@ -14,14 +14,14 @@ use Rattle.ticket_door.specs.Rule.{Gate, open_gate, shut_by, token_in, IsKept}
 use Rattle.ticket_door.proofs.Queue.{None≢Some, ticket_only, ticket_none, none_ticket, ticket_last, ticket_kept}
 
 -- the place that shut the gate has it
-pub gate_here : (i v a : ℕ) (q : List ℕ) (k : ℕ) → k ≡ i → token_in (shut_by i v) a q k ≡ Some (token.Gate v)
+pub gate_here : (i v : ℕ) (a q : List ℕ) (k : ℕ) → k ≡ i → token_in (shut_by i v) a q k ≡ Some (token.Gate v)
 gate_here i v a q k e = ap (λ b. cond b (Some (token.Gate v)) (ticket_in a q k)) (eq-eqb k i e)
 
-pub gate_else : (i v a : ℕ) (q : List ℕ) (k : ℕ) → k ≢ i → token_in (shut_by i v) a q k ≡ ticket_in a q k
+pub gate_else : (i v : ℕ) (a q : List ℕ) (k : ℕ) → k ≢ i → token_in (shut_by i v) a q k ≡ ticket_in a q k
 gate_else i v a q k n = ap (λ b. cond b (Some (token.Gate v)) (ticket_in a q k)) (ne_eqb k i n)
 
 -- a place with a ticket has it by the queue
-pub has_ticket : (g : Gate) (a : ℕ) (q : List ℕ) (k x : ℕ) → token_in g a q k ≡ Some (token.Ticket x)
+pub has_ticket : (g : Gate) (a q : List ℕ) (k : ℕ) (x : List ℕ) → token_in g a q k ≡ Some (token.Ticket x)
     → ticket_in a q k ≡ Some (token.Ticket x)
 has_ticket open_gate a q k x e = e
 has_ticket (shut_by i v) a q k x e = dite (ℕ_discrete k i)
@@ -32,17 +32,17 @@ has_ticket (shut_by i v) a q k x e = dite (ℕ_discrete k i)
     (λ ne. sym (gate_else i v a q k ne) ∙ e)
 
 -- a place without a token didn't shut the gate
-pub not_shut : (i v a : ℕ) (q : List ℕ) (k : ℕ) → token_in (shut_by i v) a q k ≡ None → k ≢ i
+pub not_shut : (i v : ℕ) (a q : List ℕ) (k : ℕ) → token_in (shut_by i v) a q k ≡ None → k ≢ i
 not_shut i v a q k e same = None≢Some (token.Gate v) (sym e ∙ gate_here i v a q k same)
 
 -- and isn't in the queue
-pub has_none : (g : Gate) (a : ℕ) (q : List ℕ) (k : ℕ) → token_in g a q k ≡ None → times k q ≡ 0
+pub has_none : (g : Gate) (a q : List ℕ) (k : ℕ) → token_in g a q k ≡ None → times k q ≡ 0
 has_none open_gate a q k e = ticket_none a q k e
 has_none (shut_by i v) a q k e =
     ticket_none a q k (sym (gate_else i v a q k (not_shut i v a q k e)) ∙ e)
 
 -- the place that has the gate shut it
-pub has_gate : (g : Gate) (a : ℕ) (q : List ℕ) (k v : ℕ) → token_in g a q k ≡ Some (token.Gate v) → g ≡ shut_by k v
+pub has_gate : (g : Gate) (a q : List ℕ) (k v : ℕ) → token_in g a q k ≡ Some (token.Gate v) → g ≡ shut_by k v
 has_gate open_gate a q k v e = absurd (ticket_only a q k v e)
 has_gate (shut_by i w) a q k v e = dite (ℕ_discrete k i)
     (λ same.
@@ -59,34 +59,34 @@ has_gate (shut_by i w) a q k v e = dite (ℕ_discrete k i)
     gate_number is = ap number is
 
 -- a place that asks takes the next ticket, whatever place has the gate
-takes_ticket_here : (g : Gate) (a : ℕ) (q : List ℕ) (k : ℕ) → token_in g a q k ≡ None
-    → token_in g a (q ++ k ∷ []) k ≡ Some (token.Ticket (a + length q))
+takes_ticket_here : (g : Gate) (a q : List ℕ) (k : ℕ) → token_in g a q k ≡ None
+    → token_in g a (q ++ k ∷ []) k ≡ Some (token.Ticket (a ++ q))
 takes_ticket_here open_gate a q k e = ticket_last a q k (ticket_none a q k e)
 takes_ticket_here (shut_by i v) a q k e =
     gate_else i v a (q ++ k ∷ []) k (not_shut i v a q k e) ∙ ticket_last a q k (has_none (shut_by i v) a q k e)
 
 -- and the other places keep what they have
-takes_ticket_else : (g : Gate) (a : ℕ) (q : List ℕ) (k j : ℕ) → j ≢ k → token_in g a (q ++ k ∷ []) j ≡ token_in g a q j
+takes_ticket_else : (g : Gate) (a q : List ℕ) (k j : ℕ) → j ≢ k → token_in g a (q ++ k ∷ []) j ≡ token_in g a q j
 takes_ticket_else open_gate a q k j ne = ticket_kept a q k j ne
 takes_ticket_else (shut_by i v) a q k j ne =
     ap (λ (o : Option Token). cond (eqb j i) (Some (token.Gate v)) o) (ticket_kept a q k j ne)
 
-pub takes_ticket_tokens : (g : Gate) (a : ℕ) (q : List ℕ) (k : ℕ) (tokens : Tokens)
+pub takes_ticket_tokens : (g : Gate) (a q : List ℕ) (k : ℕ) (tokens : Tokens)
     → ((j : ℕ) → tokens j ≡ token_in g a q j)
     → tokens k ≡ None → (j : ℕ)
-    → given_to tokens k (Some (token.Ticket (a + length q))) j ≡ token_in g a (q ++ k ∷ []) j
+    → given_to tokens k (Some (token.Ticket (a ++ q))) j ≡ token_in g a (q ++ k ∷ []) j
 takes_ticket_tokens g a q k tokens are none j =
-    let t : Option Token = Some (token.Ticket (a + length q)) in
+    let t : Option Token = Some (token.Ticket (a ++ q)) in
     dite (ℕ_discrete j k)
     (λ same. subst (λ (i : ℕ). given_to tokens k t i ≡ token_in g a (q ++ k ∷ []) i) (sym same)
     (given_here tokens k t ∙ sym (takes_ticket_here g a q k (sym (are k) ∙ none))))
     (λ ne. given_else tokens k t j ne ∙ are j ∙ sym (takes_ticket_else g a q k j ne))
 
-pub takes_ticket_kept : (g : Gate) (first served a : ℕ) (q : List ℕ) (k : ℕ) → token_in g a q k ≡ None
-    → IsKept first served a q g
-    → IsKept first served a (q ++ k ∷ []) g
-takes_ticket_kept open_gate first served a q k e h = tt
-takes_ticket_kept (shut_by i v) first served a q k e h = record {
+pub takes_ticket_kept : (g : Gate) (first served x : ℕ) (a q : List ℕ) (k : ℕ) → token_in g a q k ≡ None
+    → IsKept first served x q g
+    → IsKept first served x (q ++ k ∷ []) g
+takes_ticket_kept open_gate first served x a q k e h = tt
+takes_ticket_kept (shut_by i v) first served x a q k e h = record {
   since = h.since;
   word = h.word;
   begins = h.begins;
@@ -110,13 +110,13 @@ serves_kept (shut_by i v) first served a q h = record {
 }
 
 -- the place that shuts the gate has it
-pub closes_gate_tokens : (a : ℕ) (q : List ℕ) (k v : ℕ) (tokens : Tokens) → ((j : ℕ) → tokens j ≡ ticket_in a q j)
+pub closes_gate_tokens : (a q : List ℕ) (k v : ℕ) (tokens : Tokens) → ((j : ℕ) → tokens j ≡ ticket_in a q j)
     → (j : ℕ)
     → given_to tokens k (Some (token.Gate v)) j ≡ token_in (shut_by k v) a q j
 closes_gate_tokens a q k v tokens are j = ap (λ (o : Option Token). cond (eqb j k) (Some (token.Gate v)) o) (are j)
 
 -- and when it opens the gate again, it has nothing
-pub opens_gate_tokens : (a : ℕ) (q : List ℕ) (k v : ℕ) (tokens : Tokens)
+pub opens_gate_tokens : (a q : List ℕ) (k v : ℕ) (tokens : Tokens)
     → ((j : ℕ) → tokens j ≡ token_in (shut_by k v) a q j)
     → times k q ≡ 0 → (j : ℕ) → given_to tokens k None j ≡ ticket_in a q j
 opens_gate_tokens a q k v tokens are out j = dite (ℕ_discrete j k)

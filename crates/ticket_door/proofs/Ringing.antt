@@ -22,10 +22,10 @@ use Rattle.door_frame.specs.Refusals.{NotOwed}
 use Rattle.door_frame.specs.Steps.{SeatState, Gives, Refused, gives_as, due}
 use Rattle.door_frame.specs.Views.{alone}
 use Rattle.door_frame.proofs.Steps as frame
-use Rattle.hoare_law.specs.Admissions.{admissions}
+use Rattle.hoare_law.specs.Admissions.{admissions, admitted}
 use Rattle.ticket_door.specs.Rule.{Initial, WordsFit, token_in, IsKept, next_at, serving_at, bell_at, taken, bell_value}
 use Rattle.ticket_door.specs.Steps.{takes_bell, TakesBellAt}
-use Rattle.hoare_law.proofs.Admissions.{admissions-other}
+use Rattle.hoare_law.proofs.Admissions.{admitted-length, admitted-other}
 use Rattle.ticket_door.proofs.Turns.{for_next, rings_due, bell_value_else, bell_value_due, no_admit, held_busy}
 use Rattle.ticket_door.proofs.Turns.{due_busy}
 use Rattle.ticket_door.proofs.Turns.{due_inside, still_outside}
@@ -33,31 +33,35 @@ use Rattle.ticket_door.proofs.Turns.{due_inside, still_outside}
 module _ {D : Type 0} (first n : ℕ) where
   -- a bell has another number, and it is somebody's turn before and after
   rewritten : (f h : History D) (tokens : Tokens) (ws : List ℕ) (k y : ℕ) → k < n → taken (turn f.events) ≡ 1
-      → taken (turn h.events) ≡ 1 → admissions h.events ≡ admissions f.events
+      → taken (turn h.events) ≡ 1 → admitted h.events ≡ admitted f.events
       → bell_value (turn h.events) k ≡ y → ((j : ℕ) → j ≢ k → bell_value (turn h.events) j ≡ bell_value (turn f.events)
       j)
       → (t : WordsFit first n f tokens ws) → ((j : ℕ) → 0 < times j t.queue → outside j h.events ≡ true)
       → WordsFit first n h tokens (set ws (bell_at k) y)
-  rewritten f h tokens ws k y small before after same here else_ t out = let wide = t.words_are in record {
-    words_are = length-set ws (bell_at k) y ∙ wide;
-    queue = t.queue;
-    once = t.once;
-    below = t.below;
-    are_outside = out;
-    gate = t.gate;
-    tokens_are = λ j. t.tokens_are j ∙ ap (λ (m : ℕ). token_in t.gate m t.queue j) (sym same);
-    next = get_or-set_other ws (bell_at k) next_at y 0 (λ eq. omega (arith, eq)) ∙ t.next
-        ∙ ap (λ (m : ℕ). (first + (m + length t.queue)) % 2 ^ 64) (sym same);
-    served = t.served;
-    due = let d = t.due in omega (arith, d, before, after, same);
-    serving = get_or-set_other ws (bell_at k) serving_at y 0 (λ eq. omega (arith, eq)) ∙ t.serving;
-    kept = subst (λ (m : ℕ). IsKept first t.served m t.queue t.gate) (sym same) t.kept;
-    bells = λ j b. dite (ℕ_discrete j k)
-        (λ is. subst (λ (i : ℕ). get_or (set ws (bell_at k) y) (bell_at i) 0 ≡ bell_value (turn h.events) i) (sym is)
-        (get_or-set_same ws (bell_at k) y 0 (omega (arith, wide, small)) ∙ sym here))
-        (λ ne. get_or-set_other ws (bell_at k) (bell_at j) y 0 (λ eq. ne (omega (arith, eq))) ∙ t.bells j b
-        ∙ sym (else_ j ne));
-  }
+  rewritten f h tokens ws k y small before after alike here else_ t out =
+      let same : admissions h.events ≡ admissions f.events =
+      sym (admitted-length h.events) ∙ ap length alike ∙ admitted-length f.events in
+      let wide = t.words_are in record {
+        words_are = length-set ws (bell_at k) y ∙ wide;
+        queue = t.queue;
+        once = t.once;
+        below = t.below;
+        are_outside = out;
+        gate = t.gate;
+        tokens_are = λ j. t.tokens_are j ∙ ap (λ (b : List ℕ). token_in t.gate b t.queue j) (sym alike);
+        next = get_or-set_other ws (bell_at k) next_at y 0 (λ eq. omega (arith, eq)) ∙ t.next
+            ∙ ap (λ (m : ℕ). (first + (m + length t.queue)) % 2 ^ 64) (sym same);
+        served = t.served;
+        due = let d = t.due in omega (arith, d, before, after, same);
+        serving = get_or-set_other ws (bell_at k) serving_at y 0 (λ eq. omega (arith, eq)) ∙ t.serving;
+        kept = subst (λ (m : ℕ). IsKept first t.served m t.queue t.gate) (sym same) t.kept;
+        bells = λ j b. dite (ℕ_discrete j k)
+            (λ is. subst (λ (i : ℕ). get_or (set ws (bell_at k) y) (bell_at i) 0 ≡ bell_value (turn h.events) i)
+            (sym is)
+            (get_or-set_same ws (bell_at k) y 0 (omega (arith, wide, small)) ∙ sym here))
+            (λ ne. get_or-set_other ws (bell_at k) (bell_at j) y 0 (λ eq. ne (omega (arith, eq))) ∙ t.bells j b
+            ∙ sym (else_ j ne));
+      }
 
   module _ (rest : Rest D) (ready : Ready D) (kinds : Kinds) where
     abbrev K : Cells D → Type 0
@@ -75,7 +79,7 @@ module _ {D : Type 0} (first n : ℕ) where
         (λ tokens ws places below t. let h : History D = with_event f (event x.state) in
         let r = rings_due j (turn h.events) (for_next (turn h.events) j (sym p.next_is)) in
         rewritten f h tokens ws j 1 small (ap taken p.inside) r.busy
-        (admissions-other f (event x.state) (no_admit f (event x.state) p.allowed (held_busy k _ p.inside))) r.here
+        (admitted-other f (event x.state) (no_admit f (event x.state) p.allowed (held_busy k _ p.inside))) r.here
         (λ i ne. r.else_ i ne ∙ sym (ap (λ (u : Turn). bell_value u i) p.inside)) t
         (still_outside f (event x.state) k t.queue p.mine (outside-held f.events k p.inside) t.are_outside))
 
@@ -105,7 +109,7 @@ module _ {D : Type 0} (first n : ℕ) where
           others = λ j ne. refl;
           words_fit =
               rewritten log h tokens ws k 0 small r.busy (ap taken e.inside)
-              (admissions-other log (due k f (latest_data log))
+              (admitted-other log (due k f (latest_data log))
               (no_admit log (due k f (latest_data log)) e.allowed (due_busy k _ is))) (ap
               (λ (u : Turn). bell_value u k) e.inside)
               (λ j ne. ap (λ (u : Turn). bell_value u j) e.inside ∙ sym (r.else_ j ne)) t

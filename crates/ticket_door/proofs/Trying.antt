@@ -18,7 +18,7 @@ use Rattle.hoare_law.specs.declared.turn.Turn.TheVariants.{Free, Held}
 use Rattle.hoare_law.specs.Events.{own, latest_data, with_event}
 use Rattle.hoare_law.specs.Lawful.{Rest, Ready, Stands}
 use Rattle.hoare_law.specs.Turns.{turn, outside}
-use Rattle.hoare_law.specs.Admissions.{admissions}
+use Rattle.hoare_law.specs.Admissions.{admissions, admitted}
 use Rattle.hoare_law.proofs.Admissions.{admissions-admit}
 use Rattle.hoare_law.proofs.Entering.{outside-same}
 use Rattle.wait_book.proofs.Times.{few_once}
@@ -90,7 +90,7 @@ module _ {D : Type 0} (first n : ℕ) where
       → t.gate ≡ open_gate → get_or ws serving_at 0 ≡ v
       → WordsFit first n log (given_to tokens k (Some (token.Gate v))) (set ws serving_at (v + 1))
   gate_shut log tokens ws k v free t is_open found =
-      let a : ℕ = admissions log.events in
+      let a : List ℕ = admitted log.events in
       let wide = t.words_are in
       let word : v ≡ (2 * (first + t.served)) % 2 ^ 64 =
       sym found ∙ t.serving ∙ ap (λ (g : Gate). (2 * (first + t.served) + shut g) % 2 ^ 64) is_open
@@ -128,10 +128,11 @@ module _ {D : Type 0} (first n : ℕ) where
       → WordsFit first n log (given_to tokens k None)
       (set ws serving_at ((get_or ws serving_at 0 + (2 ^ 64 - 1)) % 2 ^ 64))
   gate_open log tokens ws k v has t =
-      let a : ℕ = admissions log.events in
+      let a : List ℕ = admitted log.events in
       let wide = t.words_are in
       let by : t.gate ≡ shut_by k v = has_gate t.gate a t.queue k v (sym (t.tokens_are k) ∙ has) in
-      let kept : CloseGate first k v t.served a t.queue = subst (IsKept first t.served a t.queue) by t.kept in record {
+      let kept : CloseGate first k v t.served (admissions log.events) t.queue =
+      subst (IsKept first t.served (admissions log.events) t.queue) by t.kept in record {
         words_are = length-set ws serving_at _ ∙ wide;
         queue = t.queue;
         once = t.once;
@@ -175,7 +176,7 @@ module _ {D : Type 0} (first n : ℕ) where
         below = λ j some. absurd (omega (arith, some));
         are_outside = λ j some. absurd (omega (arith, some));
         gate = shut_by k v;
-        tokens_are = λ j. t.tokens_are j ∙ (λ i. token_in (by i) a (empty i) j);
+        tokens_are = λ j. t.tokens_are j ∙ (λ i. token_in (by i) (admitted log.events) (empty i) j);
         next =
             get_or-set_same ws next_at _ 0 (omega (arith, wide))
             ∙ ap (λ (m : ℕ). (m + 1) % 2 ^ 64) (sym found ∙ t.next)
@@ -271,7 +272,8 @@ module _ {D : Type 0} (first n : ℕ) where
         → get_or ws next_at 0 ≡ w → TriesIn k w log tokens ws
     brings k v w f log tokens ws few out word stands places small same has t hit =
         let a : ℕ = admissions log.events in
-        let by : t.gate ≡ shut_by k v = has_gate t.gate a t.queue k v (sym (t.tokens_are k) ∙ has) in
+        let by : t.gate ≡ shut_by k v =
+        has_gate t.gate (admitted log.events) t.queue k v (sym (t.tokens_are k) ∙ has) in
         let kept : CloseGate first k v t.served a t.queue = subst (IsKept first t.served a t.queue) by t.kept in
         let most = few_once t.queue n t.once t.below in
         let is : IsStill kept.since t.served a (length t.queue) =

@@ -9,7 +9,7 @@ use Rattle.wait_book.specs.Contents.{one, times}
 use Rattle.door_frame.specs.declared.view.Token.{Token}
 use Rattle.door_frame.specs.declared.view.Token.TheVariants as token
 use Rattle.door_frame.specs.Rule.{Tokens}
-use Rattle.hoare_law.specs.Admissions.{admissions}
+use Rattle.hoare_law.specs.Admissions.{admissions, admitted}
 use Rattle.ticket_door.specs.Queue.{ticket_in}
 
 -- the index of each word: each has a cache line of its own
@@ -46,9 +46,9 @@ shut open_gate = 0
 shut (shut_by k v) = 1
 
 -- the token of place j: the gate if it shut the gate, else its ticket, if it has one
-abbrev pub token_in : Gate → ℕ → List ℕ → ℕ → Option Token
-token_in open_gate a queue j = ticket_in a queue j
-token_in (shut_by k v) a queue j = if j == k then Some (token.Gate v) else ticket_in a queue j
+abbrev pub token_in : Gate → List ℕ → List ℕ → ℕ → Option Token
+token_in open_gate before queue j = ticket_in before queue j
+token_in (shut_by k v) before queue j = if j == k then Some (token.Gate v) else ticket_in before queue j
 
 -- no other place was admitted since the place k shut the gate: so at most one turn ended. And k has no ticket
 pub record CloseGate (first k v served admitted : ℕ) (queue : List ℕ) : Type 0 where
@@ -82,7 +82,7 @@ pub record WordsFit {D : Type 0} (first n : ℕ) (log : History D) (tokens : Tok
   pub are_outside : (k : ℕ) → 0 < times k queue → outside k log.events ≡ true
   -- the holder of the gate
   pub gate : Gate
-  pub tokens_are : (k : ℕ) → tokens k ≡ token_in gate (admissions log.events) queue k
+  pub tokens_are : (k : ℕ) → tokens k ≡ token_in gate (admitted log.events) queue k
   pub next : slice_index words next_at ≡ (first + (admissions log.events + length queue)) % 2 ^ 64
   -- how often the monitor was opened to entering threads: the number of admissions, less one while a turn lasts
   pub served : ℕ

@@ -1,6 +1,6 @@
 -- The contracts of the steps that only this door has: of the step, the seat before, the number found and the seat
 -- after.
-use Rattle.std.specs.Prelude.{◌≡◌, ℕ, ◌+◌, ◌*◌, ◌%◌, ◌^◌, ◌<◌, ◌≤◌, [], ◌∷◌, Some, None}
+use Rattle.std.specs.Prelude.{◌≡◌, ℕ, ◌+◌, ◌*◌, ◌%◌, ◌^◌, List, [], ◌∷◌, ◌++◌, length, Some, None}
 use Rattle.hoare_law.specs.declared.event.History.{History}
 use Rattle.hoare_law.specs.declared.event.Event.TheVariants.{Admit}
 use Rattle.hoare_law.specs.Lawful.{Rest, Ready}
@@ -10,31 +10,37 @@ use Rattle.door_frame.specs.Steps.{due}
 use Rattle.door_frame.specs.Views.{alone, asking, trying, knows}
 use Rattle.door_frame.specs.declared.view.Token.TheVariants.{Ticket, Gate}
 use Rattle.ticket_door.specs.Tries.{Reopened}
-use Rattle.hoare_law.specs.Admissions.{admissions}
+use Rattle.ticket_door.specs.Queue.{AreAhead}
+use Rattle.hoare_law.specs.Admissions.{admitted}
 
 module _ {D : Type 0} where
-  -- the place k, which knew f, took ticket number x, and learned the history g: there that ticket isn't admitted yet,
-  -- and fewer of the earlier tickets still wait than the door has places
-  pub record TakesTicket (rest : Rest D) (ready : Ready D) (places k : ℕ) (f g : History D) (x : ℕ)
+  -- the place k, which knew f, took the ticket after those of the places `before`, and learned the history g: there the
+  -- first of these are admitted, and the places `ahead` are not yet
+  pub record TakesTicket (rest : Rest D) (ready : Ready D) (places k : ℕ) (f g : History D) (before : List ℕ)
       (me : SeatState D) : Type 0 where
-    pub learns : Learns rest ready g (knows k f (Some (Ticket x)) ∷ []) me
-    pub not_yet : admissions g.events ≤ x
-    pub few : x < admissions g.events + places
+    pub learns : Learns rest ready g (knows k f (Some (Ticket before)) ∷ []) me
+    pub ahead : List ℕ
+    pub is_before : before ≡ admitted g.events ++ ahead
+    pub are_ahead : AreAhead places k ahead
 
   -- a place takes the next ticket
   abbrev pub takes_ticket : ℕ → ℕ → Rest D → Ready D → StepContract D
   takes_ticket first places rest ready st m r m' =
       (k : ℕ) (f : History D) → m ≡ (alone k f, [])
-      → (g : History D) × (x : ℕ) × TakesTicket rest ready places k f g x m' × (r ≡ (first + x) % 2 ^ 64)
+      → (g : History D) × (before : List ℕ) × TakesTicket rest ready places k f g before m'
+      × (r ≡ (first + length before) % 2 ^ 64)
 
-  -- a poll by the place k with the ticket x: if it is served, k is admitted, as admission x, counted from 0
-  abbrev pub PollsTicketAt : ℕ → Rest D → Ready D → ℕ → History D → ℕ → SeatState D → ℕ → SeatState D → Type 0
-  PollsTicketAt first rest ready k f x =
-      EntryStep rest ready (λ r. r ≡ (2 * (first + x)) % 2 ^ 64) (λ log. admissions log.events ≡ x) k f (Admit k)
+  -- a poll by the place k with the ticket after those of the places `before`: if it is served, k is admitted, after
+  -- exactly these places
+  abbrev pub PollsTicketAt : ℕ → Rest D → Ready D → ℕ → History D → List ℕ → SeatState D → ℕ → SeatState D → Type 0
+  PollsTicketAt first rest ready k f before =
+      EntryStep rest ready (λ r. r ≡ (2 * (first + length before)) % 2 ^ 64) (λ log. admitted log.events ≡ before) k f
+      (Admit k)
 
   abbrev pub polls_ticket : ℕ → Rest D → Ready D → StepContract D
   polls_ticket first rest ready st m r m' =
-      (k : ℕ) (f : History D) (x : ℕ) → m ≡ (asking k f x, []) → PollsTicketAt first rest ready k f x m r m'
+      (k : ℕ) (f : History D) (before : List ℕ) → m ≡ (asking k f before, [])
+      → PollsTicketAt first rest ready k f before m r m'
 
   -- a place shuts the gate if SERVING is v
   abbrev pub ClosesGateAt : ℕ → ℕ → History D → SeatState D → ℕ → SeatState D → Type 0

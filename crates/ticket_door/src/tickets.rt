@@ -1,5 +1,5 @@
 //! Entering by ticket. A thread takes the next ticket, and enters when it is served.
-ghost use Rattle.std.specs.Prelude.{◌≡◌, ◌≢◌, ◌<◌, ◌↔◌, ℕ, ◌+◌, ◌%◌, ◌^◌, [], true, false, IsTrue, None};
+ghost use Rattle.std.specs.Prelude.{◌≡◌, ◌≢◌, ◌<◌, ◌↔◌, ℕ, ◌+◌, ◌%◌, ◌^◌, List, [], length, true, false, IsTrue, None};
 ghost use Rattle.hoare_law.specs.Events.{with_event};
 ghost use Rattle.hoare_law.specs.declared.event.History.{History};
 ghost use Rattle.hoare_law.specs.declared.event.Event.TheVariants as event;
@@ -12,7 +12,7 @@ ghost use Rattle.door_frame.specs.Seats.{IsEmptyHanded, IsEntering};
 ghost use Rattle.door_frame.specs.Steps.{EnteredBy};
 ghost use Rattle.ticket_door.specs.Asked.{IsAsking, IsServed, IsAsked, EntersBy, WaitsBehind};
 ghost use Rattle.ticket_door.specs.Steps.{TakesTicket};
-ghost use Rattle.hoare_law.specs.Admissions.{admissions};
+ghost use Rattle.hoare_law.specs.Admissions.{admitted};
 
 use crate::door::RawTicketDoor;
 use crate::place::{Asked, TicketIn, TicketOut};
@@ -36,9 +36,9 @@ impl<D: MonitorData> RawTicketDoor<D> {
         requires places { self.now.door.places ≡ J.places }
         requires entering { IsEntering place seat.old.me }
         ensures table { seat.new.table_id ≡ seat.old.table_id }
-        ensures drawn { (f : History D) → IsEmptyHanded place f seat.old.me → (g : History D) × (x : ℕ)
-            × TakesTicket D.rest D.ready self.now.door.places place f g x seat.new.me
-            × (result ≡ (self.now.first + x) % 2 ^ 64) }
+        ensures drawn { (f : History D) → IsEmptyHanded place f seat.old.me → (g : History D) × (before : List ℕ)
+            × TakesTicket D.rest D.ready self.now.door.places place f g before seat.new.me
+            × (result ≡ (self.now.first + length before) % 2 ^ 64) }
     {
         self.table.shared.fetch_add::<TakeTicket<J>>(seat, NEXT, 1)
     }
@@ -48,8 +48,8 @@ impl<D: MonitorData> RawTicketDoor<D> {
     fn is_served<J: Counting>(&self, seat: &mut DoorSeat<D>, place: usize, ticket: u64) -> bool
         requires table { seat.old.table_id ≡ self.now.door.table }
         requires first { self.now.first ≡ J.first }
-        requires asked { (f : History D) × (x : ℕ) × IsAsking place f x seat.old.me × (ticket
-            ≡ (self.now.first + x) % 2 ^ 64) × (outside place f.events ≡ true) }
+        requires asked { (f : History D) × (before : List ℕ) × IsAsking place f before seat.old.me × (ticket
+            ≡ (self.now.first + length before) % 2 ^ 64) × (outside place f.events ≡ true) }
         ensures table { seat.new.table_id ≡ seat.old.table_id }
         ensures missed { result ≡ false → seat.new.me ≡ seat.old.me }
         ensures let_in { result ≡ true → IsServed D.rest D.ready place seat.old.me seat.new.me }
@@ -69,8 +69,8 @@ impl<D: MonitorData> RawTicketDoor<D> {
     )
         requires table { seat.old.table_id ≡ self.now.door.table }
         requires first { self.now.first ≡ J.first }
-        requires asked { (f : History D) × (x : ℕ) × IsAsking place f x seat.old.me × (ticket
-            ≡ (self.now.first + x) % 2 ^ 64) × (outside place f.events ≡ true) }
+        requires asked { (f : History D) × (before : List ℕ) × IsAsking place f before seat.old.me × (ticket
+            ≡ (self.now.first + length before) % 2 ^ 64) × (outside place f.events ≡ true) }
         ensures table { seat.new.table_id ≡ seat.old.table_id }
         ensures let_in { IsServed D.rest D.ready place seat.old.me seat.new.me }
     {
@@ -97,12 +97,12 @@ impl<D: MonitorData> RawTicketDoor<D> {
     ) -> GuardedBox<D>
         requires table { seat.old.table_id ≡ self.now.door.table }
         requires first { self.now.first ≡ J.first }
-        requires asked { (f : History D) × (x : ℕ) × IsAsking place f x seat.old.me × (ticket
-            ≡ (self.now.first + x) % 2 ^ 64) × (outside place f.events ≡ true) }
+        requires asked { (f : History D) × (before : List ℕ) × IsAsking place f before seat.old.me × (ticket
+            ≡ (self.now.first + length before) % 2 ^ 64) × (outside place f.events ≡ true) }
         ensures table { seat.new.table_id ≡ seat.old.table_id }
-        ensures enters_with { (f : History D) (x : ℕ) → IsAsking place f x seat.old.me
+        ensures enters_with { (f : History D) (before : List ℕ) → IsAsking place f before seat.old.me
             → (c : EnteredBy D.rest D.ready place f (event.Admit place) result None seat.new.me)
-            × (admissions c.log.events ≡ x) }
+            × (admitted c.log.events ≡ before) }
     {
         if self.is_served::<J>(seat, place, ticket) {
             return take_guarded(&self.table, seat);
@@ -111,8 +111,9 @@ impl<D: MonitorData> RawTicketDoor<D> {
         take_guarded(&self.table, seat)
     }
 
-    /// Takes the next ticket. The place learns all that happened so far. `come_in` enters with the ticket, after as
-    /// many others as there are tickets before it that are not served yet: fewer than the door has places.
+    /// Takes the next ticket. The place learns all that happened so far. `come_in` enters with the ticket, after the
+    /// places with the tickets before it that are not served yet. They are other places, each once, and so fewer than
+    /// the door has places.
     #[inline]
     pub fn ask(&self, out: TicketOut<D>) -> Asked<D>
         requires { IsOut D.rest D.ready (kinds_of D.CONDITIONS D.MESA) self.now.door out }
@@ -130,8 +131,9 @@ impl<D: MonitorData> RawTicketDoor<D> {
         }
     }
 
-    /// Enters once the ticket is served: after as many others as there were tickets before it, when it was taken, that
-    /// were not served yet. They are fewer than the door has places.
+    /// Enters once the ticket is served. Since it was taken, exactly the places were admitted whose tickets were
+    /// before it then and not served yet: each once, in the order of their tickets. So no place overtakes a ticket
+    /// twice.
     #[inline]
     pub fn come_in<R: Wait>(&self, rt: &R, asked: Asked<D>) -> TicketIn<D>
         requires { IsAsked D.rest D.ready (kinds_of D.CONDITIONS D.MESA) self.now asked }

@@ -1,8 +1,9 @@
-use Rattle.std.proofs.Common.{◌≡◌, true, sym, ◌∙◌, subst}
+use Rattle.std.proofs.Common.{◌≡◌, true, length, sym, ap, ◌∙◌, subst}
 use Rattle.hoare_law.specs.Sizes.{kinds_of}
 use Rattle.hoare_law.specs.Turns.{outside}
 use Rattle.door_frame.proofs.Seats.{away_as, place_id_as}
-use Rattle.ticket_door.proofs.Asking.{asking_alone, asking_front, asking_number, asking_by, takes_ticket_as}
+use Rattle.ticket_door.proofs.Asking.{asking_alone, asking_front, asking_before, asking_by, takes_ticket_as}
+use Rattle.ticket_door.specs.Asked.{ahead_in}
 use Rattle.ticket_door.proofs.door.RawTicketDoor.ask.Goals as goal
 
 pub draw-ticket-requires-clause-entering : goal.draw-ticket-requires-clause-entering
@@ -30,8 +31,10 @@ returns g c =
     let D = g.D.MonitorData in
     let p = c.into_parts-seat.ensures in
     let d = c.draw-ticket.ensures.drawn c.args.out.front (away_as p.1 p.2) in
+    let front = asking_front _ _ _ d.0 d.1 d.2.learns.me_is in
+    let before = asking_before _ _ d.0 d.1 d.2.learns.me_is in
     let r =
     takes_ticket_as D.rest D.ready (kinds_of D.CONDITIONS D.MESA) c.args.self.now c.args.out _ c.requires d.2 p.1
-    (place_id_as _ c.draw-ticket.ensures.table ∙ p.0) p.1 (asking_front _ _ _ d.0 d.1 d.2.learns.me_is)
-    (asking_number _ _ d.0 d.1 d.2.learns.me_is) d.3 in
+    (place_id_as _ c.draw-ticket.ensures.table ∙ p.0) p.1 front (ap length before) (λ i. ahead_in (front i) (before i))
+    d.3 in
     record { of = r.of; place = r.place; front = r.front }

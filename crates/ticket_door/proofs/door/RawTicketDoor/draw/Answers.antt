@@ -1,4 +1,4 @@
-use Rattle.std.proofs.Common.{ℕ, ◌+◌, ◌%◌, ◌^◌, sym, ap, ◌∙◌, arith, subst}
+use Rattle.std.proofs.Common.{ℕ, ◌+◌, ◌%◌, ◌^◌, length, sym, ap, ◌∙◌, arith, subst}
 use mathlib.Core.Option.{none}
 use Rattle.atomic_table.specs.Table.{step}
 use Rattle.ticket_door.specs.Asked.{TicketDoorId}
@@ -29,5 +29,5 @@ returns-clause-drawn g c = λ f is.
       d.1,
       subst (λ (n : ℕ). TakesTicket D.rest D.ready n c.args.place f d.0 d.1 c.fetch_add.new.seat.me)
           (sym c.requires.places) d.2,
-      d.3 ∙ ap (λ n. (n + d.1) % 2 ^ 64) (sym c.requires.first),
+      d.3 ∙ ap (λ n. (n + length d.1) % 2 ^ 64) (sym c.requires.first),
     )

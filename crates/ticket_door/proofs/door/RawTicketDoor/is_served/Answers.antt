@@ -1,4 +1,5 @@
-use Rattle.std.proofs.Common.{◌≡◌, ◌+◌, ◌*◌, ◌%◌, ◌^◌, ap, sym, ◌∙◌, eqb-true, eq-eqb, true≢false, [], Some, arith}
+use Rattle.std.proofs.Common.{◌≡◌, ◌+◌, ◌*◌, ◌%◌, ◌^◌, ap, sym, ◌∙◌, eqb-true, eq-eqb, true≢false}
+use Rattle.std.proofs.Common.{[], length, Some, arith}
 use mathlib.Core.Option.{none}
 use Rattle.atomic_table.specs.Table.{step}
 use Rattle.hoare_law.specs.Sizes.{kinds_of}
@@ -27,7 +28,7 @@ pub returns-clause-missed : goal.returns-clause-missed
 returns-clause-missed g c = λ no.
     let a = c.requires.asked in
     let turn = c.served_as.ensures
-    ∙ turn_word c.args.self.now.first g.J.Counting.first a.1 c.args.ticket c.requires.first a.3 in
+    ∙ turn_word c.args.self.now.first g.J.Counting.first (length a.1) c.args.ticket c.requires.first a.3 in
     (c.load.ensures.2 c.args.place a.0 a.1 a.2).0
     (λ hit. true≢false (sym (eq-eqb c.load.result c.served_as.result (hit ∙ sym turn)) ∙ no))
 
@@ -35,9 +36,9 @@ pub returns-clause-let_in : goal.returns-clause-let_in
 returns-clause-let_in g c = λ yes f x is.
     let a = c.requires.asked in
     let q = sole_is c.args.place c.args.place a.0 f (Some (Ticket a.1)) (Some (Ticket x)) [] [] (sym a.2 ∙ is) in
-    let n : a.1 ≡ x = Ticket-injective a.1 x q.2 in
-    let same : c.load.result ≡ (2 * (g.J.Counting.first + x)) % 2 ^ 64 =
+    let n : length a.1 ≡ length x = ap length (Ticket-injective a.1 x q.2) in
+    let same : c.load.result ≡ (2 * (g.J.Counting.first + length x)) % 2 ^ 64 =
     eqb-true c.load.result c.served_as.result yes ∙ c.served_as.ensures
-    ∙ turn_word c.args.self.now.first g.J.Counting.first a.1 c.args.ticket c.requires.first a.3
+    ∙ turn_word c.args.self.now.first g.J.Counting.first (length a.1) c.args.ticket c.requires.first a.3
     ∙ ap (λ m. (2 * (g.J.Counting.first + m)) % 2 ^ 64) n in
     (c.load.ensures.2 c.args.place f x is).1 same

@@ -1,5 +1,5 @@
 use Rattle.std.proofs.Common.{◌≡◌, ◌∙◌}
-use Rattle.hoare_law.specs.Admissions.{admissions}
+use Rattle.hoare_law.specs.Admissions.{admitted}
 use Rattle.door_frame.proofs.Seats.{took_also}
 use Rattle.ticket_door.proofs.door.RawTicketDoor.served.Goals as goal
 
@@ -13,7 +13,7 @@ returns-then-is_served-clause-enters_with g c = λ f x is.
     let D = g.D.MonitorData in
     let t = c.is_served.ensures.let_in c.if-is_served.true f x is in
     took_also D.rest D.ready
-    (λ log. admissions log.events ≡ x) t.1 t.2 c.take_guarded.ensures.taken c.take_guarded.ensures.empty
+    (λ log. admitted log.events ≡ x) t.1 t.2 c.take_guarded.ensures.taken c.take_guarded.ensures.empty
 
 pub keep_polling-requires-clause-asked : goal.keep_polling-requires-clause-asked
 keep_polling-requires-clause-asked g c =
@@ -31,4 +31,4 @@ returns-clause-enters_with g c = λ f x is.
     let D = g.D.MonitorData in
     let t = c.keep_polling.ensures.let_in f x (c.is_served.ensures.missed c.if-is_served.false ∙ is) in
     took_also D.rest D.ready
-    (λ log. admissions log.events ≡ x) t.1 t.2 c.take_guarded-2.ensures.taken c.take_guarded-2.ensures.empty
+    (λ log. admitted log.events ≡ x) t.1 t.2 c.take_guarded-2.ensures.taken c.take_guarded-2.ensures.empty

@@ -6,7 +6,7 @@ ghost use Rattle.hoare_law.specs.Priorities.{nobody};
 
 use crate::tests::compared::expect_same;
 use crate::tests::schedulers::head::HeadCall::Requests;
-use crate::tests::schedulers::head::calls_head;
+use crate::tests::schedulers::head::{calls_head, keeps_to_its_traces};
 use crate::tests::schedulers::plain::SingleCall::{Acquires, IsRefused, Releases};
 use crate::tests::schedulers::plain::calls_single;
 use crate::tests::schedulers::readers::{
@@ -123,6 +123,7 @@ fn a_take_is_refused_after_a_wait(host: HostRuntime) -> Result<(), Fail> {
 fn a_request_is_refused_after_a_wait(host: HostRuntime) {
     let (rt, alloc) = (&host, host.alloc());
     let (fake, out) = with_answers(rt, alloc, Head::with(1, 10), [Head::with(2, 20)]);
+    let out = keeps_to_its_traces(rt, &fake, out);
     let out = calls_head(rt, &fake, out, Requests(5, Ok(1)));
     calls_head(rt, &fake, out, Requests(8, Err(OffDisk)));
 }

@@ -1,5 +1,7 @@
 //! The disk head. The drive is the number of requests that were granted, so each grant has a number.
 ghost use Rattle.std.specs.Prelude.{◌≡◌};
+ghost use Rattle.sweep_schedulers.specs.Follows.{Follows};
+ghost use Rattle.sweep_schedulers.specs.HeadHistories.{ContinuesHead};
 
 use crate::tests::compared::expect_same;
 use crate::tests::row::{DoorKind, Row, run};
@@ -11,6 +13,7 @@ use std::process::Abort;
 use std::rt::Clock;
 use std::sync::Wait;
 use sweep_schedulers::head::{Head, OffDisk};
+use sweep_schedulers::laws::head_calls_follow;
 use sweep_schedulers::not_out::NotOut;
 
 /// A call of a disk head.
@@ -27,6 +30,25 @@ pub enum HeadCall {
 }
 
 use HeadCall::{IsRefused, Releases, Requests, Stays};
+
+/// Requests the drive for cylinder 7, and puts it back: from the clauses of these calls and the law, the place's own
+/// events stay such as `laws::a_head_history_is_a_run` asks.
+pub fn keeps_to_its_traces<R: Wait, M: Monitor<Head<u64>>>(rt: &R, m: &M, out: M::Out) -> M::Out
+    requires { M.is_of m.now out }
+    ensures of { M.is_of m.now result }
+    ensures follows { Follows ContinuesHead (M.place out) (M.front out)
+        → Follows ContinuesHead (M.place out) (M.front result) }
+{
+    head_calls_follow::<u64>();
+    let (out, granted) = Head::request(m, rt, out, 7);
+    match granted {
+        Ok(drive) => {
+            let (out, _released) = Head::release(m, rt, out, drive);
+            out
+        }
+        Err(OffDisk) => out,
+    }
+}
 
 /// Makes the call. Fails the test unless it returns what it must.
 pub fn calls_head<R: Wait + Abort, M: Monitor<Head<u64>>>(

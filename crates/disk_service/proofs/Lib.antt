@@ -6,3 +6,4 @@ pub mod Borrowing
 pub mod Handing
 pub mod JobsDone
 pub mod ServedJobs
+pub mod Runs

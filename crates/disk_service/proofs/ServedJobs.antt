@@ -1,11 +1,10 @@
 -- What the workers did, all together: one worker more, and all of it in the histories of the doors.
 use Rattle.std.proofs.Common.{ℕ, ◌≡◌, ◌+◌, ◌<◌, Bool, true, false, List, [], ◌∷◌, ◌++◌, length, Option, Some}
 use Rattle.std.proofs.Common.{Result, Ok, Err, ap, refl, sym, ◌∙◌, arith}
-use Rattle.std.specs.Prelude.{slice_index_or, ◌&&◌, ◌↔◌, All, IfOk, IsOk}
+use Rattle.std.specs.Prelude.{slice_index_or, ◌&&◌, ◌↔◌, IfOk, IsOk}
 use Rattle.std.specs.List.{Contains}
 use Rattle.std.proofs.lemmas.List.{get_or_append_left, length-append}
 use Rattle.std.proofs.lemmas.List.Elements.{Contains-push, All-contains}
-use Rattle.hoare_law.specs.Sizes.{sizes_at}
 use Rattle.door_frame.specs.Places.{DoorId, PlaceOut, IsInHistory}
 use Rattle.disk_jobs.specs.declared.fault.ServiceFault.{ServiceFault}
 use Rattle.disk_jobs.specs.declared.report.Report.{Report}
@@ -18,7 +17,7 @@ use Rattle.disk_service.specs.declared.data.Board.{Board}
 use Rattle.disk_service.specs.declared.doors.Doors.{Doors}
 use Rattle.disk_service.specs.declared.places.Places.{Places}
 use Rattle.disk_service.specs.declared.thread_places.ThreadPlaces.{ThreadPlaces}
-use Rattle.disk_service.specs.Doors.{Terms, AreSized, totals_terms, board_terms}
+use Rattle.disk_service.specs.Doors.{Terms, AreSized}
 use Rattle.disk_service.specs.ServedJobs.{AreAmong, ArePut, ClosesWith, IsWhole, HasWorked, AreDoneBy, nobody}
 use Rattle.disk_service.specs.ServedJobs.{one_more, Histories, HaveThread, AreClosed, IsServed}
 
@@ -150,5 +149,5 @@ pub gathered : (j : JobList) (d : Doors) (p : Places) (totals : Option Totals) (
     → (IsOk r ↔ Agrees j.cylinders jobs t.jobs t.sum board.done)
     → IfOk r (λ v. account_of v ≡ service j.cylinders) → IfOk r (λ v. IsServed j (account_of v))
 gathered j d p totals t board jobs (Ok v) sized closed some done agrees reported =
-    all-served j d p totals t board jobs (account_of v) sized closed some done (agrees.0 tt) reported
+    all-served j d p totals t board jobs (account_of v) sized closed some done (agrees.0 refl) reported
 gathered j d p totals t board jobs (Err e) sized closed some done agrees reported = tt

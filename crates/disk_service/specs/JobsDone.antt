@@ -1,5 +1,5 @@
 -- What a worker does for each job, as the fronts of its places show it.
-use Rattle.std.specs.Prelude.{ℕ, ◌+◌, ◌||◌, ◌≡◌, Bool, false, List, [], ◌∷◌, ◌++◌, Option, Some, None, Result, Ok}
+use Rattle.std.specs.Prelude.{ℕ, ◌+◌, ◌||◌, ◌≡◌, Bool, false, List, [], ◌∷◌, ◌++◌, Option, Some, None, Ok}
 use Rattle.hoare_law.specs.declared.event.History.{History}
 use Rattle.plain_schedulers.specs.BufferTraces.{Removes}
 use Rattle.plain_schedulers.specs.SingleTraces.{Acquires, Releases}

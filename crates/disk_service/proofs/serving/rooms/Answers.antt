@@ -1,4 +1,4 @@
-use Rattle.std.proofs.Common.{◌≡◌, ◌+◌, [], vec_len, All, Vec, Global, arith}
+use Rattle.std.proofs.Common.{◌≡◌, [], Vec, Global, arith}
 use Rattle.std.proofs.lemmas.List.Elements.{All-nil, All-push, All-same}
 use Rattle.disk_jobs.specs.declared.done.Done.{Done}
 use Rattle.disk_service.proofs.serving.rooms.Goals as goal

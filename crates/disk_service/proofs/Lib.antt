@@ -4,3 +4,6 @@ pub mod EachJob
 pub mod Sleeping
 pub mod Borrowing
 pub mod Handing
+pub mod JobsDone
+pub mod ServedJobs
+pub mod Runs

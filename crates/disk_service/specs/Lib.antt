@@ -6,3 +6,5 @@ pub mod EachJob
 pub mod Sleeps
 pub mod Borrows
 pub mod Handing
+pub mod JobsDone
+pub mod ServedJobs

@@ -1,8 +1,9 @@
 //! Writing on the board, and reading it.
-ghost use Rattle.std.specs.Prelude.{◌≡◌};
+ghost use Rattle.std.specs.Prelude.{◌≡◌, true};
 ghost use Rattle.disk_service.specs.Doors.{AreThreadPlaces};
+ghost use Rattle.disk_service.specs.JobsDone.{Notes};
 
-use crate::data::Board;
+use crate::data::{Board, both};
 use crate::doors::Doors;
 use crate::thread_places::ThreadPlaces;
 use hoare_law::monitor::Monitor;
@@ -21,8 +22,8 @@ pub(crate) fn write<R: Wait>(
     requires { AreThreadPlaces doors.now own }
     ensures of { AreThreadPlaces doors.now result.0 }
     ensures number { result.0.number ≡ own.number }
-    ensures clock { result.0.clock ≡ own.clock }
-    ensures pool { result.0.pool ≡ own.pool }
+    ensures others { result.0 ≡ record own { board = result.0.board } }
+    ensures notes { result.1 ≡ true → Notes own.number more last own.board.front result.0.board.front }
 {
     let mut own = own;
     let (place, written) = write_on(&doors.board, rt, own.board, more, last);
@@ -41,11 +42,13 @@ fn write_on<R: Wait, M: Monitor<ReadersWriters<Board>>>(
     requires { M.is_of m.now out }
     ensures of { M.is_of m.now result.0 }
     ensures place { M.place result.0 ≡ M.place out }
+    ensures notes { result.1 ≡ true
+        → Notes (M.place out) more last (M.front out) (M.front result.0) }
 {
     let (out, board) = ReadersWriters::start_write(m, rt, out);
     let next = board.with(more, last);
     let (out, ended) = ReadersWriters::end_write(m, rt, out, next.unwrap_or(board));
-    (out, next.is_some() && ended.is_ok())
+    (out, both(next.is_some(), ended.is_ok()))
 }
 
 /// Returns the thread's places, and true if the board says that no more jobs will be done. If the board can't be read,

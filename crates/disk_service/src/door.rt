@@ -5,6 +5,7 @@ ghost use Rattle.hoare_law.specs.Sizes.{kinds_of};
 ghost use Rattle.any_door.specs.Doors.{id_of, kind_behind};
 ghost use Rattle.disk_service.specs.Doors.{AreFirst, terms};
 ghost use Rattle.disk_service.specs.Made.{AreNew, door_kind};
+ghost use Rattle.disk_service.specs.ServedJobs.{ClosesWith};
 
 use any_door::{AnyDoor, DoorKind};
 use disk_jobs::fault::ServiceFault;
@@ -52,6 +53,7 @@ pub(crate) fn opened<D: MonitorData + Send + Drop>(
 pub(crate) fn closed<D: MonitorData + Send>(door: AnyDoor<D>, places: Vec<Outside<D>>) -> D
     requires { AreFirst (terms D.rest D.ready (kinds_of D.CONDITIONS D.MESA)) (id_of door) (id_of door).places
         places.items }
+    ensures { ClosesWith (terms D.rest D.ready (kinds_of D.CONDITIONS D.MESA)) (id_of door) places.items result }
 {
     door.close(places)
 }

@@ -4,6 +4,7 @@ ghost use Rattle.disk_service.specs.Made.{AreOf, AreOpened, IsMade, blank_board,
 ghost use Rattle.disk_service.specs.Made.{no_totals, start_time};
 ghost use Rattle.disk_service.specs.Doors.{AreSized, AreThere, board_terms, clock_terms, head_terms, items_terms};
 ghost use Rattle.disk_service.specs.Doors.{pool_terms, totals_terms};
+ghost use Rattle.disk_service.specs.ServedJobs.{AreClosed};
 
 use crate::data::{Board, Drive, Item, Totals};
 use crate::door::{DoorWithPlaces, closed, opened};
@@ -83,6 +84,7 @@ impl Doors {
     pub(crate) fn close(self, places: Places, count: usize) -> (Option<Totals>, Board)
         requires size { AreSized self count }
         requires places { AreThere self count places }
+        ensures { AreClosed self places result.0 result.1 }
     {
         let Doors {
             items,

@@ -1,8 +1,9 @@
 //! The places that no thread has.
-ghost use Rattle.std.specs.Prelude.{◌≡◌, ◌+◌, ◌<◌, ℕ, length, IfOk};
+ghost use Rattle.std.specs.Prelude.{◌≡◌, ◌+◌, ◌<◌, ◌++◌, ◌∷◌, [], ℕ, length, All, IfOk};
 ghost use Rattle.door_frame.specs.Places.{DoorId};
 ghost use Rattle.disk_service.specs.Doors.{AreFirst, AreThere, AreThreadPlaces, IsAt, terms};
 ghost use Rattle.disk_service.specs.declared.doors.Doors.{Doors};
+ghost use Rattle.disk_service.specs.ServedJobs.{AreFresh, ArePut, IsFresh, IsFreshThread};
 ghost use Rattle.hoare_law.specs.Sizes.{kinds_of};
 
 use crate::data::{Board, Drive, Item, Totals};
@@ -37,7 +38,8 @@ pub struct Places {
 // Takes the last of the places, of which there has to be at least one.
 fn take_last<D: MonitorData>(places: &mut Vec<Outside<D>>) -> Outside<D>
     requires { 0 < length places.old.items }
-    ensures { (door : DoorId) (n : ℕ)
+    ensures fresh { All IsFresh places.old.items → IsFresh result × All IsFresh places.new.items }
+    ensures places { (door : DoorId) (n : ℕ)
         → AreFirst (terms D.rest D.ready (kinds_of D.CONDITIONS D.MESA)) door (n + 1) places.old.items
         → IsAt (terms D.rest D.ready (kinds_of D.CONDITIONS D.MESA)) door n result
         × AreFirst (terms D.rest D.ready (kinds_of D.CONDITIONS D.MESA)) door n places.new.items }
@@ -53,7 +55,8 @@ fn put_last<D: MonitorData>(
     places: &mut Vec<Outside<D>>,
     place: Outside<D>,
 ) -> Result<(), AllocError>
-    ensures { IfOk result (λ _. (door : DoorId) (n : ℕ)
+    ensures put { IfOk result (λ _. places.new.items ≡ places.old.items ++ place ∷ []) }
+    ensures places { IfOk result (λ _. (door : DoorId) (n : ℕ)
         → AreFirst (terms D.rest D.ready (kinds_of D.CONDITIONS D.MESA)) door n places.old.items
         → IsAt (terms D.rest D.ready (kinds_of D.CONDITIONS D.MESA)) door n place
         → AreFirst (terms D.rest D.ready (kinds_of D.CONDITIONS D.MESA)) door (n + 1) places.new.items) }
@@ -70,6 +73,7 @@ impl Places {
         ensures number { result.number ≡ number }
         ensures own { (d : Doors) → AreThere d (number + 1) self.old → AreThreadPlaces d result }
         ensures left { (d : Doors) → AreThere d (number + 1) self.old → AreThere d number self.new }
+        ensures fresh { AreFresh self.old → IsFreshThread result × AreFresh self.new }
     {
         let items = take_last(&mut self.items);
         let clock = take_last(&mut self.clock);
@@ -90,8 +94,9 @@ impl Places {
 
     /// Puts a thread's places back. Their number has to be the next. The memory for them is still there.
     pub(crate) fn put_places(&mut self, own: ThreadPlaces) -> Result<(), AllocError>
-        ensures { IfOk result (λ _. (d : Doors) → AreThere d own.number self.old → AreThreadPlaces d own
+        ensures places { IfOk result (λ _. (d : Doors) → AreThere d own.number self.old → AreThreadPlaces d own
             → AreThere d (own.number + 1) self.new) }
+        ensures put { IfOk result (λ _. ArePut own self.old self.new) }
     {
         let ThreadPlaces {
             number: _,

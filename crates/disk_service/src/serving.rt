@@ -1,10 +1,11 @@
 //! The service: from the jobs to their report.
-ghost use Rattle.std.specs.Prelude.{◌≡◌, ◌+◌, vec_len, IfOk, IfErr};
+ghost use Rattle.std.specs.Prelude.{◌≡◌, ◌+◌, [], vec_len, All, IfOk, IfErr};
 ghost use Rattle.disk_jobs.specs.Faults.{IsOfService};
 ghost use Rattle.disk_jobs.specs.Reports.{account_of};
 ghost use Rattle.disk_jobs.specs.Services.{service};
-ghost use Rattle.disk_service.specs.CallerStates.{IsReady};
+ghost use Rattle.disk_service.specs.CallerStates.{HaveDone, IsReady};
 ghost use Rattle.disk_service.specs.Doors.{AreSized, AreThere};
+ghost use Rattle.disk_service.specs.ServedJobs.{IsServed};
 
 use crate::doors::Doors;
 use crate::gate::Gate;
@@ -29,6 +30,7 @@ pub fn serve<R: Threads + Wait + Sync, G: Gate + Sync>(
     gate: &G,
 ) -> Result<Report, ServiceFault>
     ensures report { IfOk result (λ r. account_of r ≡ service jobs.now.cylinders) }
+    ensures served { IfOk result (λ r. IsServed jobs.now (account_of r)) }
     ensures fault { IfErr result IsOfService }
 {
     serve_on(rt, alloc, Kind::Baton, jobs, gate)
@@ -43,6 +45,7 @@ pub fn serve_tickets<R: Threads + Wait + Sync, G: Gate + Sync>(
     gate: &G,
 ) -> Result<Report, ServiceFault>
     ensures report { IfOk result (λ r. account_of r ≡ service jobs.now.cylinders) }
+    ensures served { IfOk result (λ r. IsServed jobs.now (account_of r)) }
     ensures fault { IfErr result IsOfService }
 {
     serve_on(rt, alloc, Kind::Ticket, jobs, gate)
@@ -50,18 +53,22 @@ pub fn serve_tickets<R: Threads + Wait + Sync, G: Gate + Sync>(
 
 // Allocates room for the results of each worker: any worker may do all jobs.
 fn rooms(alloc: Global, workers: u32, jobs: usize) -> Result<Vec<Vec<Done>>, AllocError>
-    ensures { IfOk result (λ rooms. vec_len rooms ≡ workers) }
+    ensures length { IfOk result (λ rooms. vec_len rooms ≡ workers) }
+    ensures empty { IfOk result (λ rooms. All (λ room. room.items ≡ []) rooms.items) }
 {
     let mut rooms = Vec::with_capacity(alloc, workers as usize)?;
     for _ in 0..workers {
-        rooms.push(Vec::with_capacity(alloc, jobs)?)?;
+        let room = Vec::with_capacity(alloc, jobs)?;
+        rooms.push(room)?;
     }
     Ok(rooms)
 }
 
 // Allocates room for the results of each worker, and for all results: any worker may do all jobs.
 fn room_for(alloc: Global, jobs: &Jobs) -> Result<(Vec<Vec<Done>>, Vec<Done>), AllocError>
-    ensures { IfOk result (λ r. vec_len r.0 ≡ jobs.now.workers) }
+    ensures length { IfOk result (λ r. vec_len r.0 ≡ jobs.now.workers) }
+    ensures empty { IfOk result (λ r. All (λ room. room.items ≡ []) r.0.items) }
+    ensures none { IfOk result (λ r. r.1.items ≡ []) }
 {
     let (workers, count) = (jobs.workers(), jobs.len());
     let rooms = rooms(alloc, workers, count)?;
@@ -78,6 +85,7 @@ pub(crate) fn serve_on<R: Threads + Wait + Sync, G: Gate + Sync>(
     gate: &G,
 ) -> Result<Report, ServiceFault>
     ensures report { IfOk result (λ r. account_of r ≡ service jobs.now.cylinders) }
+    ensures served { IfOk result (λ r. IsServed jobs.now (account_of r)) }
     ensures fault { IfErr result IsOfService }
 {
     let Ok((rooms, results)) = room_for(alloc, jobs) else {
@@ -89,6 +97,7 @@ pub(crate) fn serve_on<R: Threads + Wait + Sync, G: Gate + Sync>(
         places,
         rooms,
         results,
+        did_all: true,
     };
     run_and_report(rt, jobs, gate, doors, state)
 }
@@ -104,6 +113,7 @@ fn run_and_report<R: Threads + Wait + Sync, G: Gate + Sync>(
     requires size { AreSized doors (jobs.now.workers + 2) }
     requires state { IsReady doors jobs.now.workers state }
     ensures report { IfOk result (λ r. account_of r ≡ service jobs.now.cylinders) }
+    ensures served { IfOk result (λ r. IsServed jobs.now (account_of r)) }
     ensures fault { IfErr result IsOfService }
 {
     match run_threads(rt, gate, jobs, &doors, state) {
@@ -119,17 +129,23 @@ fn run_and_report<R: Threads + Wait + Sync, G: Gate + Sync>(
 fn close_and_report(jobs: &Jobs, doors: Doors, state: CallerState) -> Result<Report, ServiceFault>
     requires size { AreSized doors (jobs.now.workers + 2) }
     requires places { AreThere doors (jobs.now.workers + 2) state.places }
+    requires done { HaveDone jobs.now.workers state }
     ensures report { IfOk result (λ r. account_of r ≡ service jobs.now.cylinders) }
+    ensures served { IfOk result (λ r. IsServed jobs.now (account_of r)) }
     ensures fault { IfErr result IsOfService }
 {
     let CallerState {
         places,
         results,
+        did_all,
         ..
     } = state;
     let (totals, board) = doors.close(places, jobs.workers() as usize + 2);
     let Some(totals) = totals else {
         return Err(ServiceFault::Torn);
     };
+    if !did_all {
+        return Err(ServiceFault::Torn);
+    }
     gather(jobs, results, totals.jobs, totals.sum, board.done)
 }

@@ -1,6 +1,7 @@
 //! The places of one thread of the service.
-ghost use Rattle.std.specs.Prelude.{◌≡◌};
+ghost use Rattle.std.specs.Prelude.{◌≡◌, true};
 ghost use Rattle.disk_service.specs.Doors.{AreThreadPlaces};
+ghost use Rattle.disk_service.specs.ServedJobs.{HasWorked};
 ghost use Rattle.disk_service.specs.declared.doors.Doors.{Doors};
 
 use crate::data::{Board, Drive, Item, Totals};
@@ -53,6 +54,7 @@ impl<'a> Promise<ThreadPlaces> for ReturnsPlaces<'a> {
     ghost kept_by = { λ p own. AreThreadPlaces p.doors.now own × (own.number ≡ p.number) };
 }
 
-impl<'a> Promise<(ThreadPlaces, Vec<Done>)> for ReturnsPlaces<'a> {
-    ghost kept_by = { λ p r. AreThreadPlaces p.doors.now r.0 × (r.0.number ≡ p.number) };
+impl<'a> Promise<(ThreadPlaces, Vec<Done>, bool)> for ReturnsPlaces<'a> {
+    ghost kept_by = { λ p r. AreThreadPlaces p.doors.now r.0 × (r.0.number ≡ p.number)
+        × (r.2 ≡ true → HasWorked p.number r.1.items r.0) };
 }

@@ -1,13 +1,15 @@
 //! The threads of the service: the clock, the workers, and the caller's own.
-ghost use Rattle.std.specs.Prelude.{◌≡◌, ◌+◌, ◌≤◌, length, IfOk, IfErr, IfSome};
+ghost use Rattle.std.specs.Prelude.{◌≡◌, ◌+◌, ◌≤◌, ◌++◌, [], length, true, IfOk, IfErr, IfSome};
 ghost use Rattle.disk_service.specs.Doors.{AreThere, AreThreadPlaces};
-ghost use Rattle.disk_service.specs.CallerStates.{HasForWorkers, IsReady};
+ghost use Rattle.disk_service.specs.CallerStates.{HasForWorkers, HaveDone, IsReady};
 ghost use Rattle.disk_service.specs.Handing.{HandsBy, StartsBy};
+ghost use Rattle.disk_service.specs.ServedJobs.{ArePut, HasWorked, IsFreshThread};
 ghost use Rattle.disk_jobs.specs.Faults.{IsOfService};
 ghost use Rattle.disk_service.specs.declared.doors.Doors.{Doors};
 
 use crate::caller::{close_board, hand_out, stop_workers};
 use crate::clock::tick_on;
+use crate::data::both;
 use crate::doors::Doors;
 use crate::gate::Gate;
 use crate::places::Places;
@@ -30,6 +32,8 @@ pub(crate) struct CallerState {
     pub rooms: Vec<Vec<Done>>,
     /// The results of the workers that are joined.
     pub results: Vec<Done>,
+    /// True if each worker that is joined did each job that it got.
+    pub did_all: bool,
 }
 
 impl CallerState {
@@ -39,6 +43,8 @@ impl CallerState {
         ensures number { result.0.number ≡ number }
         ensures own { (d : Doors) → HasForWorkers d (number + 1) self.old → AreThreadPlaces d result.0 }
         ensures left { (d : Doors) → HasForWorkers d (number + 1) self.old → HasForWorkers d number self.new }
+        ensures fresh { (d : Doors) → HasForWorkers d (number + 1) self.old → IsFreshThread result.0 }
+        ensures empty { (d : Doors) → HasForWorkers d (number + 1) self.old → result.1.items ≡ [] }
     {
         let own = self.places.take_places(number);
         match self.rooms.pop() {
@@ -47,13 +53,22 @@ impl CallerState {
         }
     }
 
-    // Puts back a worker's places, and adds its results. The memory for both is there.
-    fn take_back(&mut self, own: ThreadPlaces, kept: Vec<Done>) -> Result<(), ServiceFault>
+    // Puts back a worker's places, and adds its results; `did` says that it did each job that it got. The memory for
+    // both is there.
+    fn take_back(
+        &mut self,
+        own: ThreadPlaces,
+        kept: Vec<Done>,
+        did: bool,
+    ) -> Result<(), ServiceFault>
         ensures places { IfOk result (λ _. (d : Doors) → AreThere d own.number self.old.places
             → AreThreadPlaces d own → AreThere d (own.number + 1) self.new.places) }
         ensures rooms { self.new.rooms ≡ self.old.rooms }
+        ensures done { IfOk result (λ _. (did ≡ true → HasWorked own.number kept.items own)
+            → HaveDone own.number self.old → HaveDone (own.number + 1) self.new) }
         ensures fault { IfErr result (λ f. f ≡ ServiceFault.Memory) }
     {
+        self.did_all = both(self.did_all, did);
         let added = add_results(&mut self.results, kept);
         added.and(put_back(&mut self.places, own))
     }
@@ -61,7 +76,8 @@ impl CallerState {
 
 // Adds a worker's results to all results. The memory for them is there.
 fn add_results(results: &mut Vec<Done>, kept: Vec<Done>) -> Result<(), ServiceFault>
-    ensures { IfErr result (λ f. f ≡ ServiceFault.Memory) }
+    ensures added { IfOk result (λ _. results.new.items ≡ results.old.items ++ kept.items) }
+    ensures fault { IfErr result (λ f. f ≡ ServiceFault.Memory) }
 {
     match results.extend_from_slice(kept.as_slice()) {
         Ok(()) => Ok(()),
@@ -73,6 +89,7 @@ fn add_results(results: &mut Vec<Done>, kept: Vec<Done>) -> Result<(), ServiceFa
 fn put_back(places: &mut Places, own: ThreadPlaces) -> Result<(), ServiceFault>
     ensures places { IfOk result (λ _. (d : Doors) → AreThere d own.number places.old
         → AreThreadPlaces d own → AreThere d (own.number + 1) places.new) }
+    ensures put { IfOk result (λ _. ArePut own places.old places.new) }
     ensures fault { IfErr result (λ f. f ≡ ServiceFault.Memory) }
 {
     match places.put_places(own) {
@@ -92,6 +109,7 @@ pub(crate) fn run_threads<R: Threads + Wait + Sync, G: Gate + Sync>(
 ) -> Result<CallerState, ServiceFault>
     requires { IsReady doors.now jobs.now.workers state }
     ensures places { IfOk result (λ s. AreThere doors.now (jobs.now.workers + 2) s.places) }
+    ensures done { IfOk result (λ s. HaveDone jobs.now.workers s) }
     ensures fault { IfErr result IsOfService }
 {
     thread::scope(
@@ -101,6 +119,7 @@ pub(crate) fn run_threads<R: Threads + Wait + Sync, G: Gate + Sync>(
             requires { IsReady doors.now jobs.now.workers state }
             ensures places { IfOk result (λ s.
                 AreThere doors.entry.now (jobs.entry.now.workers + 2) s.places) }
+            ensures done { IfOk result (λ s. HaveDone jobs.entry.now.workers s) }
             ensures fault { IfErr result IsOfService }
         { run_in_scope(scope, rt, gate, jobs, doors, state) },
     )
@@ -117,6 +136,7 @@ fn run_in_scope<'s, 'e, R: Threads + Wait + Sync, G: Gate + Sync>(
 ) -> Result<CallerState, ServiceFault>
     requires { IsReady doors.now jobs.now.workers state }
     ensures places { IfOk result (λ s. AreThere doors.now (jobs.now.workers + 2) s.places) }
+    ensures done { IfOk result (λ s. HaveDone jobs.now.workers s) }
     ensures fault { IfErr result IsOfService }
 {
     let mut state = state;
@@ -137,6 +157,7 @@ fn with_clock<'s, 'e, R: Threads + Wait + Sync, G: Gate + Sync>(
 ) -> Result<(), ServiceFault>
     requires { IsReady doors.now jobs.now.workers state.old }
     ensures places { IfOk result (λ _. AreThere doors.now (jobs.now.workers + 2) state.new.places) }
+    ensures done { IfOk result (λ _. HaveDone jobs.now.workers state.new) }
     ensures fault { IfErr result IsOfService }
     ensures started { StartsBy (length state.new.rooms.items) result }
 {
@@ -175,7 +196,8 @@ fn start_clock<'s, 'e, R: Threads + Wait + Sync>(
         .ok()
 }
 
-// Starts a worker with these places and this room, on a thread of its own that promises to return the places.
+// Starts a worker with these places and this room, which is empty, on a thread of its own that promises to return the
+// places, and what it did since they were made.
 fn start_worker<'s, 'e, R: Threads + Wait + Sync, G: Gate + Sync>(
     scope: &Scope<'s, &'e ()>,
     rt: &'e R,
@@ -184,9 +206,11 @@ fn start_worker<'s, 'e, R: Threads + Wait + Sync, G: Gate + Sync>(
     promise: ReturnsPlaces<'e>,
     own: ThreadPlaces,
     room: Vec<Done>,
-) -> Option<PromisedHandle<(ThreadPlaces, Vec<Done>), ReturnsPlaces<'e>>>
+) -> Option<PromisedHandle<(ThreadPlaces, Vec<Done>, bool), ReturnsPlaces<'e>>>
     requires own { AreThreadPlaces promise.doors.now own }
     requires number { own.number ≡ promise.number }
+    requires fresh { IsFreshThread own }
+    requires empty { room.items ≡ [] }
     ensures { IfSome result (λ h. h.promise ≡ promise.entry) }
 {
     let doors = promise.doors;
@@ -211,6 +235,7 @@ fn with_workers<'s, 'e, R: Threads + Wait + Sync, G: Gate + Sync>(
     ensures of { AreThreadPlaces doors.now result.0 }
     ensures number { result.0.number ≡ mine.number }
     ensures places { IfOk result.1 (λ _. AreThere doors.now left state.new.places) }
+    ensures done { IfOk result.1 (λ _. HaveDone left state.new) }
     ensures fault { IfErr result.1 IsOfService }
     ensures handed { HandsBy jobs.now (length state.new.rooms.items) mine.number mine.items.front
         result.0.items.front result.1 }
@@ -226,7 +251,7 @@ fn with_workers<'s, 'e, R: Threads + Wait + Sync, G: Gate + Sync>(
         return (mine, Err(ServiceFault::Spawn));
     };
     let (mine, outcome) = with_workers(scope, rt, gate, jobs, doors, state, mine, number);
-    let (returned, kept) = worker.join(rt);
-    let back = state.take_back(returned, kept);
+    let (returned, kept, did) = worker.join(rt);
+    let back = state.take_back(returned, kept, did);
     (mine, outcome.and(back))
 }

@@ -1,12 +1,16 @@
 //! What a worker does.
-ghost use Rattle.std.specs.Prelude.{◌≡◌, ◌+◌, ◌≤◌, vec_len};
+ghost use Rattle.std.specs.Prelude.{◌≡◌, ◌+◌, ◌≤◌, ◌++◌, ◌∷◌, [], vec_len, true, IfSome, Some};
+ghost use Rattle.disk_jobs.specs.Services.{Served, served};
 ghost use Rattle.disk_service.specs.Doors.{AreThreadPlaces};
 ghost use Rattle.disk_service.specs.Borrows.{BorrowsForEach};
 ghost use Rattle.disk_service.specs.EachJob.{jobs_in};
+ghost use Rattle.plain_schedulers.specs.BufferTraces.{Removes};
+ghost use Rattle.disk_service.specs.JobsDone.{BorrowsOnce, Counts, Does, DoesNext, Reads, SleepsOnce};
+ghost use Rattle.disk_service.specs.JobsDone.{UsesDrive, Works, item_of};
 ghost use Rattle.disk_service.specs.Sleeps.{SleepsForEach};
 
 use crate::board::write;
-use crate::data::{Drive, Item, Totals};
+use crate::data::{Drive, Item, Totals, both};
 use crate::doors::Doors;
 use crate::gate::Gate;
 use crate::thread_places::ThreadPlaces;
@@ -21,7 +25,8 @@ use timed_schedulers::alarm::Alarm;
 use timed_schedulers::pool::Pool;
 
 /// Does jobs until it gets a stop item, and adds the results to `room`, in which there is memory for them. Returns the
-/// worker's places and the results.
+/// worker's places, the results, and true if it did each job that it got. Then what it did is exactly this, for one
+/// result after another.
 ///
 /// If a monitor refuses a call, the worker skips what depends on it, and the job isn't among the results. For each
 /// result the worker has slept for a tick, and has taken a buffer from the pool and given it back.
@@ -32,7 +37,7 @@ pub fn work<R: Wait, G: Gate>(
     doors: &Doors,
     own: ThreadPlaces,
     room: Vec<Done>,
-) -> (ThreadPlaces, Vec<Done>)
+) -> (ThreadPlaces, Vec<Done>, bool)
     requires { AreThreadPlaces doors.now own }
     ensures of { AreThreadPlaces doors.now result.0 }
     ensures number { result.0.number ≡ own.number }
@@ -40,16 +45,20 @@ pub fn work<R: Wait, G: Gate>(
         (vec_len room) (vec_len result.1) }
     ensures borrows { BorrowsForEach own.number own.number own.pool.front result.0.pool.front
         (vec_len room) (vec_len result.1) }
+    ensures works { result.2 ≡ true → Works own.number room.items result.1.items own result.0 }
 {
     let mut own = own;
     let mut kept = room;
+    let mut did_all = true;
     for _ in rt.forever() {
         let (place, job) = next_job(&doors.items, rt, own.items);
         own.items = place;
         let Some(job) = job else {
-            return (own, kept);
+            return (own, kept, did_all);
         };
-        own = do_job(rt, gate, jobs, doors, own, job, &mut kept);
+        let (back, did) = do_job(rt, gate, jobs, doors, own, job, &mut kept);
+        own = back;
+        did_all = both(did_all, did);
     }
     unreachable!()
 }
@@ -59,6 +68,7 @@ fn next_job<R: Wait, M: Monitor<Buffer<Item>>>(m: &M, rt: &R, out: M::Out) -> (M
     requires { M.is_of m.now out }
     ensures of { M.is_of m.now result.0 }
     ensures place { M.place result.0 ≡ M.place out }
+    ensures removes { Removes (M.place out) (item_of result.1) (M.front out) (M.front result.0) }
 {
     let (out, item) = Buffer::remove(m, rt, out);
     match item {
@@ -67,7 +77,7 @@ fn next_job<R: Wait, M: Monitor<Buffer<Item>>>(m: &M, rt: &R, out: M::Out) -> (M
     }
 }
 
-// Does a job, with the gate's calls around it, and keeps its result.
+// Does a job, with the gate's calls around it, and keeps its result. Returns true if the job is done.
 fn do_job<R: Wait, G: Gate>(
     rt: &R,
     gate: &G,
@@ -76,22 +86,24 @@ fn do_job<R: Wait, G: Gate>(
     own: ThreadPlaces,
     job: u32,
     kept: &mut Vec<Done>,
-) -> ThreadPlaces
+) -> (ThreadPlaces, bool)
     requires { AreThreadPlaces doors.now own }
-    ensures of { AreThreadPlaces doors.now result }
-    ensures number { result.number ≡ own.number }
-    ensures sleeps { SleepsForEach own.number own.clock.front result.clock.front
+    ensures of { AreThreadPlaces doors.now result.0 }
+    ensures number { result.0.number ≡ own.number }
+    ensures sleeps { SleepsForEach own.number own.clock.front result.0.clock.front
         (vec_len kept.old) (vec_len kept.new) }
-    ensures borrows { BorrowsForEach own.number own.number own.pool.front result.pool.front
+    ensures borrows { BorrowsForEach own.number own.number own.pool.front result.0.pool.front
         (vec_len kept.old) (vec_len kept.new) }
+    ensures does { result.1 ≡ true
+        → DoesNext own.number job kept.old.items kept.new.items own result.0 }
 {
     gate.begin(job as usize);
-    let own = do_listed_job(rt, jobs, doors, own, job, kept);
+    let (own, did) = do_listed_job(rt, jobs, doors, own, job, kept);
     gate.end(job as usize);
-    own
+    (own, did)
 }
 
-// Does a job, if there is one with this number, and keeps its result.
+// Does a job, if there is one with this number, and keeps its result. Returns true if the job is done.
 fn do_listed_job<R: Wait>(
     rt: &R,
     jobs: &Jobs,
@@ -99,29 +111,34 @@ fn do_listed_job<R: Wait>(
     own: ThreadPlaces,
     job: u32,
     kept: &mut Vec<Done>,
-) -> ThreadPlaces
+) -> (ThreadPlaces, bool)
     requires { AreThreadPlaces doors.now own }
-    ensures of { AreThreadPlaces doors.now result }
-    ensures number { result.number ≡ own.number }
-    ensures sleeps { SleepsForEach own.number own.clock.front result.clock.front
+    ensures of { AreThreadPlaces doors.now result.0 }
+    ensures number { result.0.number ≡ own.number }
+    ensures sleeps { SleepsForEach own.number own.clock.front result.0.clock.front
         (vec_len kept.old) (vec_len kept.new) }
-    ensures borrows { BorrowsForEach own.number own.number own.pool.front result.pool.front
+    ensures borrows { BorrowsForEach own.number own.number own.pool.front result.0.pool.front
         (vec_len kept.old) (vec_len kept.new) }
+    ensures does { result.1 ≡ true
+        → DoesNext own.number job kept.old.items kept.new.items own result.0 }
 {
     let Some(cylinder) = jobs.cylinders().get(job as usize) else {
-        return own;
+        return (own, false);
     };
     let (own, done) = serve_job(rt, doors, own, job, *cylinder);
-    keep(kept, done);
-    own
+    let did = keep(kept, done);
+    (own, did)
 }
 
-// Keeps the result, if there is memory for it.
-fn keep(kept: &mut Vec<Done>, done: Option<Done>)
-    ensures { vec_len kept.new ≤ vec_len kept.old + jobs_in done }
+// Keeps the result, if there is memory for it. Returns true if there is a result and it is kept.
+fn keep(kept: &mut Vec<Done>, done: Option<Done>) -> bool
+    ensures length { vec_len kept.new ≤ vec_len kept.old + jobs_in done }
+    ensures kept { result ≡ true → (d : Served) × (done ≡ Some d)
+        × (kept.new.items ≡ kept.old.items ++ d ∷ []) }
 {
-    if let Some(done) = done {
-        let _kept = kept.push(done);
+    match done {
+        Some(done) => kept.push(done).is_ok(),
+        None => false,
     }
 }
 
@@ -141,6 +158,8 @@ fn serve_job<R: Wait>(
         0 (jobs_in result.1) }
     ensures borrows { BorrowsForEach own.number own.number own.pool.front result.0.pool.front
         0 (jobs_in result.1) }
+    ensures job { IfSome result.1 (λ d. d ≡ served job cylinder) }
+    ensures does { IfSome result.1 (λ d. Does own.number d own result.0) }
 {
     let (own, read) = read_into_buffer(rt, doors, own, job, cylinder);
     let Some(done) = read else {
@@ -172,6 +191,9 @@ fn read_into_buffer<R: Wait>(
         0 (jobs_in result.1) }
     ensures borrows { BorrowsForEach own.number own.number own.pool.front result.0.pool.front
         0 (jobs_in result.1) }
+    ensures others { result.0 ≡ record own { pool = result.0.pool; head = result.0.head; clock = result.0.clock } }
+    ensures job { IfSome result.1 (λ d. d ≡ served job cylinder) }
+    ensures reads { IfSome result.1 (λ _. Reads own.number cylinder own result.0) }
 {
     let mut own = own;
     let places = (own.pool, own.head, own.clock);
@@ -205,6 +227,13 @@ fn use_buffer<R: Wait, P: Monitor<Pool>, H: Monitor<Head<Drive>>, C: Monitor<Ala
         0 (jobs_in result.1) }
     ensures borrows { BorrowsForEach (P.place places.0) stream (P.front places.0) (P.front result.0.0)
         0 (jobs_in result.1) }
+    ensures job { IfSome result.1 (λ d. d ≡ served block.0 block.1) }
+    ensures pool_once { IfSome result.1 (λ _.
+        BorrowsOnce (P.place places.0) stream (P.front places.0) (P.front result.0.0)) }
+    ensures head_once { IfSome result.1 (λ _.
+        UsesDrive (H.place places.1) block.1 (H.front places.1) (H.front result.0.1)) }
+    ensures clock_once { IfSome result.1 (λ _.
+        SleepsOnce (C.place places.2) (C.front places.2) (C.front result.0.2)) }
 {
     let (at_pool, at_head, at_clock) = places;
     let (at_pool, taken) = Pool::take(pool, rt, at_pool, stream);
@@ -235,6 +264,11 @@ fn use_drive<R: Wait, H: Monitor<Head<Drive>>, C: Monitor<Alarm>>(
     ensures clock_place { C.place result.0.1 ≡ C.place places.1 }
     ensures sleeps { SleepsForEach (C.place places.1) (C.front places.1) (C.front result.0.1)
         0 (jobs_in result.1) }
+    ensures job { IfSome result.1 (λ d. d ≡ served block.0 block.1) }
+    ensures head_once { IfSome result.1 (λ _.
+        UsesDrive (H.place places.0) block.1 (H.front places.0) (H.front result.0.0)) }
+    ensures clock_once { IfSome result.1 (λ _.
+        SleepsOnce (C.place places.1) (C.front places.1) (C.front result.0.1)) }
 {
     let (at_head, at_clock) = places;
     let (job, cylinder) = block;
@@ -264,8 +298,8 @@ fn add_to_totals<R: Wait>(
     requires { AreThreadPlaces doors.now own }
     ensures of { AreThreadPlaces doors.now result.0 }
     ensures number { result.0.number ≡ own.number }
-    ensures clock { result.0.clock ≡ own.clock }
-    ensures pool { result.0.pool ≡ own.pool }
+    ensures others { result.0 ≡ record own { totals = result.0.totals } }
+    ensures counts { result.1 ≡ true → Counts own.number done own.totals.front result.0.totals.front }
 {
     let mut own = own;
     let (place, added) = add_to(&doors.totals, rt, own.totals, done);
@@ -283,9 +317,11 @@ fn add_to<R: Wait, M: Monitor<Single<Totals>>>(
     requires { M.is_of m.now out }
     ensures of { M.is_of m.now result.0 }
     ensures place { M.place result.0 ≡ M.place out }
+    ensures counts { result.1 ≡ true
+        → Counts (M.place out) done (M.front out) (M.front result.0) }
 {
     let (out, totals) = Single::acquire(m, rt, out);
     let sum = totals.with(done);
     let (out, released) = Single::release(m, rt, out, sum.unwrap_or(totals));
-    (out, sum.is_some() && released.is_ok())
+    (out, both(sum.is_some(), released.is_ok()))
 }

@@ -1,5 +1,6 @@
 use Rattle.std.proofs.Common.{◌≡◌, ◌+◌, ◌-◌, length, arith, rules}
 use Rattle.disk_service.proofs.FirstPlaces.{for_workers-at}
+use Rattle.disk_service.proofs.ServedJobs.{none-done}
 use Rattle.disk_service.proofs.threads.+with_workers.Goals as goal
 
 pub take_out-given-requires : goal.take_out-given-requires
@@ -29,3 +30,17 @@ returns-in_default-clause-handed g t c =
     let started : c.workers.result - c.args.left
     ≡ c.args.jobs.now.workers - (length c.take_out-given.new.self.rooms.items + 1) = omega arith in
     rw started at c.stop_workers-mine.ensures.handed
+
+pub start_worker-requires-clause-fresh : goal.start_worker-requires-clause-fresh
+start_worker-requires-clause-fresh g t c =
+    let some = c.if-left-eq0.false in
+    λ _ _. c.take_out-given.ensures.fresh c.args.doors.now (for_workers-at c.args.left _ (omega arith) c.requires.state)
+
+pub start_worker-requires-clause-empty : goal.start_worker-requires-clause-empty
+start_worker-requires-clause-empty g t c =
+    let some = c.if-left-eq0.false in
+    λ _ _. c.take_out-given.ensures.empty c.args.doors.now (for_workers-at c.args.left _ (omega arith) c.requires.state)
+
+pub returns-then-left-eq0-clause-done : goal.returns-then-left-eq0-clause-done
+returns-then-left-eq0-clause-done g t c = λ all.
+    none-done _ _ _ c.if-left-eq0.true c.requires.state.unused.none

@@ -2,6 +2,7 @@ use Rattle.std.proofs.Common.{arith, refl}
 use Rattle.disk_service.specs.Sleeps.{never}
 use Rattle.disk_service.proofs.EachJob.{for-none, for-fewer, one-at-most}
 use Rattle.disk_service.proofs.Borrowing.{borrowed-once, borrowed-in_vain, back-unless_err}
+use Rattle.disk_service.proofs.JobsDone.{lent-once, if-some}
 use Rattle.disk_service.proofs.worker.use_buffer.Goals as goal
 
 pub returns-in_default-clause-sleeps : goal.returns-in_default-clause-sleeps
@@ -26,3 +27,9 @@ returns-clause-borrows g c =
     let back = back-unless_err _ _ c.is_err.ensures.value c.if-is_err.false in
     let most = one-at-most c.use_drive-at_head.result.1 in
     borrowed-once _ _ _ _ _ _ _ _ (rw c.in-Ok.is at c.take-at_pool.ensures.trace) trace (omega arith)
+
+pub returns-clause-pool_once : goal.returns-clause-pool_once
+returns-clause-pool_once g c =
+    let gives = rw c.take-at_pool.ensures.place at c.give-at_pool.ensures.trace in
+    if-some _ _ (lent-once _ _ _ _ _ _ _ _ (rw c.in-Ok.is at c.take-at_pool.ensures.trace) gives
+    c.is_err.ensures.value c.if-is_err.false)

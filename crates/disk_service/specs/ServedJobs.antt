@@ -56,14 +56,14 @@ pub record AreAmong (p : Places) (q : ThreadPlaces) : Type 0 where
   pub totals : Contains p.totals.items q.totals
   pub board : Contains p.board.items q.board
 
--- thread k, whose places are q, did these jobs and nothing else since the doors were opened
+-- by the fronts of its places q, thread k did these jobs and nothing else since the doors were opened
 pub record HasWorked (k : ℕ) (jobs : List Served) (q : ThreadPlaces) : Type 0 where
   pub first : ThreadPlaces
   pub fresh : IsFreshThread first
   pub works : Works k [] jobs first q
 
--- the threads 0, .., n - 1 did jobs and nothing else since the doors were opened, and the list has all these jobs; P
--- holds of each of these threads' places
+-- by the fronts of their places the threads 0, .., n - 1 did jobs and nothing else since the doors were opened, and the
+-- list has all these jobs; P holds of each of these threads' places
 pub data AreDoneBy (P : ThreadPlaces → Type 0) : ℕ → List Served → Type 0 where
   nobody : AreDoneBy P 0 []
   one_more : (k n : ℕ) (before own all : List Served) (q : ThreadPlaces) → AreDoneBy P k before → HasWorked k own q
@@ -78,7 +78,7 @@ pub record Histories : Type 0 where
   pub totals : History (Option Totals)
   pub board : History (Shared Board)
 
--- each history begins with what the thread knows at that door, and has no other events of the thread
+-- each history begins with what the thread knows at that door, and has no other events of the place in q
 pub record HaveThread (h : Histories) (q : ThreadPlaces) : Type 0 where
   pub items : IsInHistory h.items q.items
   pub clock : IsInHistory h.clock q.clock
@@ -127,7 +127,8 @@ pub record AreClosed (d : Doors) (p : Places) (totals : Option Totals) (board : 
   pub value : board ≡ shared.value
 
 -- threads did these jobs: each door has a history from its opening to its close, which is legal and lawful, and in
--- which the workers did each job once, by the visits that `Does` says, and made no other visits
+-- which the workers did each job once, by the visits that `Does` says. That worker k's places have the number k isn't
+-- said here, so nor is that place k made no other visits
 pub record IsServed (j : JobList) (r : Account) : Type 0 where
   pub histories : Histories
   pub items : IsWhole items_terms (j.workers + 2) histories.items

@@ -37,6 +37,7 @@ static core *this_core(void) {
 static bool in_handler(void) { return false; }
 static void call_core(uint32_t number) { (void)number; }
 static void interrupts_off(void) {}
+static void relax(void) {}
 #define fail(...) x_fail("the kernel fails")
 static uint64_t lock(spin_lock *l) { return x_lock(l), 0; }
 static void unlock(spin_lock *l, uint64_t flags) {

@@ -183,3 +183,15 @@ fn polls_in_vain_are_left_out(host: HostRuntime) {
     patience.has_polled(false);
     expect_same(&host, skips(&patience), 1);
 }
+
+#[test]
+fn two_places_meet(rt: HostRuntime) {
+    let Ok((door, mut outs)) = Door::make(rt.alloc(), Tally { value: 5 }, 2) else {
+        panic!(rt; "no memory")
+    };
+    let (b, a) = (outs.pop().unwrap(), outs.pop().unwrap());
+    let (a, b) = door.meet(a, b);
+    outs.push_reserved(a);
+    outs.push_reserved(b);
+    expect_same(&rt, door.close(outs).value, 5);
+}

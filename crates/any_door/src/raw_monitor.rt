@@ -27,7 +27,7 @@ impl<D: MonitorData> RawMonitor<D> for RawAnyDoor<D> {
 
     ghost kinds = { λ d. kinds_of D.CONDITIONS D.MESA };
 
-    ghost refuses = { λ d h. refuses_at d h };
+    ghost refuses = { λ d k f h. refuses_at d k f h };
 
     type Shown = Option<Woken>;
 

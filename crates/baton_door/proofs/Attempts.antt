@@ -16,7 +16,7 @@ module _ {D : Type 0} where
   out_on a b = λ k. stays_on (a k) (b k)
 
   pub turned_away : {rest : Rest D} {ready : Ready D} {l m : SeatState D}
-      → ((k : ℕ) → IsRefused rest ready NotFree k l m) → StaysOut l m
+      → ((k : ℕ) → IsRefused rest ready (λ f. NotFree) k l m) → StaysOut l m
   turned_away refused = λ k. refused_stays (refused k)
 
   -- a place that stayed outside is outside

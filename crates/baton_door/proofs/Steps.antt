@@ -178,7 +178,7 @@ module _ {D : Type 0} where
         (sym is)
         (frame.gives_ok Initial WordsFit rest ready kinds n slots id k 0 (λ _. w) f x who event (step slots 0 w 0 none)
         p
-        (λ tokens ws places small t.
+        (λ tokens ws places small none t.
         let h : History D = with_event f (event x.state) in
         rewritten f h tokens ws w (sym (word_of-next (turn h.events)) ∙ ap word_of_next (sym p.next_is) ∙ sym word) t))
 

@@ -40,7 +40,7 @@ impl<D: MonitorData> RawMonitor<D> for RawBatonDoor<D> {
 
     ghost kinds = { λ d. kinds_of D.CONDITIONS D.MESA };
 
-    ghost refuses = { λ d. NotFree };
+    ghost refuses = { λ d k f. NotFree };
 
     type Shown = Option<Woken>;
 

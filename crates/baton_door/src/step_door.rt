@@ -171,7 +171,7 @@ impl<D: MonitorData> RawMonitor<D> for StepDoor<D> {
 
     ghost kinds = { λ d. d.kinds };
 
-    ghost refuses = { λ d. NotFree };
+    ghost refuses = { λ d k f. NotFree };
 
     type Shown = ();
 

@@ -29,7 +29,7 @@ pub(crate) fn try_in<D: MonitorData, K: DoorKey<D>>(
     requires wide { table.now.shared.table_id.words ≡ 8 }
     requires outside { IsOutside seat.old.me }
     ensures table { seat.new.table_id ≡ seat.old.table_id }
-    ensures refused { result ≡ false → (k : ℕ) → IsRefused D.rest D.ready NotFree k seat.old.me seat.new.me }
+    ensures refused { result ≡ false → (k : ℕ) → IsRefused D.rest D.ready (λ f. NotFree) k seat.old.me seat.new.me }
     ensures let_in { result ≡ true → IsAdmitted D.rest D.ready seat.old.me seat.new.me }
 {
     table
@@ -52,7 +52,7 @@ pub(crate) fn try_admit<D: MonitorData, K: DoorKey<D>>(
     ensures table { seat.new.table_id ≡ seat.old.table_id }
     ensures enters_with { IfSome result (λ guarded. EntersWith D.rest D.ready place (λ f. event.Admit place)
         seat.old.me guarded seat.new.me) }
-    ensures refused { IfNone result (IsRefused D.rest D.ready NotFree place seat.old.me seat.new.me) }
+    ensures refused { IfNone result (IsRefused D.rest D.ready (λ f. NotFree) place seat.old.me seat.new.me) }
 {
     if !try_in(table, seat) {
         return None;
@@ -75,7 +75,7 @@ pub(crate) fn try_claim<D: MonitorData, K: DoorKey<D>>(
     ensures table { seat.new.table_id ≡ seat.old.table_id }
     ensures enters_with { IfSome result (λ guarded. EntersWith D.rest D.ready place (due place)
         seat.old.me guarded seat.new.me) }
-    ensures refused { IfNone result (IsRefused D.rest D.ready (NotOwed place) place seat.old.me seat.new.me) }
+    ensures refused { IfNone result (IsRefused D.rest D.ready (λ f. NotOwed place) place seat.old.me seat.new.me) }
 {
     let mine = owed(place);
     if table

@@ -34,7 +34,8 @@ module _ {D : Type 0} where
   pub stays_on : {k : ℕ} {l m n : SeatState D} → StaysAway k l m → StaysAway k m n → StaysAway k l n
   stays_on a b = λ f is. let x = a f is in let y = b x.0 x.1 in (y.0, y.1, Begins-trans x.2 y.2, y.3 ∙ x.3)
 
-  pub refused_stays : {rest : Rest D} {ready : Ready D} {Cause : History D → Type 0} {k : ℕ} {l m : SeatState D}
+  pub refused_stays : {rest : Rest D} {ready : Ready D} {Cause : History D → History D → Type 0} {k : ℕ}
+      {l m : SeatState D}
       → IsRefused rest ready Cause k l m → StaysAway k l m
   refused_stays refused = λ f is. let r = refused f is in (r.log, r.me_is, r.begins, r.own_are)
 
@@ -131,18 +132,18 @@ module _ {D : Type 0} where
     pub cause : Cause p.front
 
   -- a place that was outside and was refused is still outside
-  pub still_out : {rest : Rest D} {ready : Ready D} {kinds : Kinds} {Cause : History D → Type 0} {d : DoorId} {k : ℕ}
-      {m : SeatState D} (o : PlaceOut D) (t : PlaceId) (p : PlaceOut D) → IsOut rest ready kinds d o
-      → t ≡ o.place_id → k ≡ o.place → (r : Refused rest ready Cause k o.front m) → p ≡ place_out t k r.log
-      → IsStillOut rest ready kinds Cause d o p
-  still_out {rest = rest} {ready = ready} {kinds = kinds} {Cause = Cause} {d = d} {m = m} o t p out same place =
+  pub still_out : {rest : Rest D} {ready : Ready D} {kinds : Kinds} (Cause : ℕ → History D → Type 0) {d : DoorId}
+      {k : ℕ} {m : SeatState D} (o : PlaceOut D) (t : PlaceId) (p : PlaceOut D) → IsOut rest ready kinds d o
+      → t ≡ o.place_id → k ≡ o.place → (r : Refused rest ready (Cause k) k o.front m) → p ≡ place_out t k r.log
+      → IsStillOut rest ready kinds (Cause o.place) d o p
+  still_out {rest = rest} {ready = ready} {kinds = kinds} Cause {d = d} {m = m} o t p out same place =
       subst
-      (λ (j : ℕ). (r : Refused rest ready Cause j o.front m) → p ≡ place_out t j r.log
-      → IsStillOut rest ready kinds Cause d o p) (sym place) at
+      (λ (j : ℕ). (r : Refused rest ready (Cause j) j o.front m) → p ≡ place_out t j r.log
+      → IsStillOut rest ready kinds (Cause o.place) d o p) (sym place) at
     where
-      at : (r : Refused rest ready Cause o.place o.front m) → p ≡ place_out t o.place r.log
-          → IsStillOut rest ready kinds Cause d o p
-      at r is = subst (IsStillOut rest ready kinds Cause d o) (sym is) (record {
+      at : (r : Refused rest ready (Cause o.place) o.place o.front m) → p ≡ place_out t o.place r.log
+          → IsStillOut rest ready kinds (Cause o.place) d o p
+      at r is = subst (IsStillOut rest ready kinds (Cause o.place) d o) (sym is) (record {
         of = told_out rest ready kinds d t o r.log (same ∙ out.of) out r.stands r.begins r.own_are;
         place = refl;
         front = grows_others o.place r.begins r.own_are;

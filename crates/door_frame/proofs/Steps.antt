@@ -39,6 +39,7 @@ use Rattle.door_frame.specs.declared.view.SeatView.{SeatView}
 use Rattle.door_frame.specs.declared.view.SeatView.TheVariants.{Unopened, Opening, Places}
 use Rattle.door_frame.specs.Rule.{Tokens, Cells, Agrees, Lies, OpenInvariant, TableInvariant, raw, lent, runs}
 use Rattle.door_frame.proofs.Arrivals.{not_awaited}
+use Rattle.door_frame.proofs.Refusals.{learned_now}
 use Rattle.door_frame.specs.Steps.{SeatState, due, due_by, due_from, begins, opens, gives_as, Gives, notes_as, Notes}
 use Rattle.door_frame.specs.Steps.{EntryStepOr, EntryStepWith, Refused, Known}
 use Rattle.door_frame.specs.Steps.{Learns, learns}
@@ -320,12 +321,12 @@ module _ {D : Type 0} (Initial : Bool → List ℕ → Type 0) (WordsFit : Histo
   stays_as n s i id y v kept at same =
       (v, subst (λ (z : ℕ). K n (stepped s i z id [] v keeps)) (sym same) (unmoved n s i id v [] at kept), refl)
 
-  -- or the place k of the seat, which knew f, learns the log
-  pub learns_log : (n : ℕ) (s : Cells D) (r : R n s) (i id y k : ℕ) (f : History D) (Cause : History D → Type 0)
-      → get_elem? s.views id ≡ some (alone k f) → y ≡ get_or s.words i 0 → Cause r.log
-      → Misses n s i id y (Refused rest ready Cause k f)
-  learns_log n s r i id y k f Cause at same cause =
-      let fit = (r.fronts id (alone k f) at).0 in let w : SeatView D = alone k r.log in (
+  -- or the place k of the seat, which knew f and has the token o, learns the log
+  pub learns_only : (n : ℕ) (s : Cells D) (r : R n s) (i id y k : ℕ) (f : History D) (o : Option Token)
+      → get_elem? s.views id ≡ some (sole k f o) → y ≡ get_or s.words i 0
+      → Misses n s i id y (Learns rest ready r.log (knows k f o ∷ []))
+  learns_only n s r i id y k f o at same =
+      let fit = (r.fronts id (sole k f o) at).0 in let w : SeatView D = sole k r.log o in (
         w,
         subst (λ (z : List ℕ). K n record { words = z; homes = s.homes; views = set s.views id w })
             (sym (ap (λ (z : ℕ). set s.words i z) same ∙ set-get_or s.words i 0)) (runs (record {
@@ -334,7 +335,7 @@ module _ {D : Type 0} (Initial : Bool → List ℕ → Type 0) (WordsFit : Histo
               tokens = r.tokens;
               one_slot = r.one_slot;
               sized = r.sized;
-              fronts = agree_all n s r id k f r.log r.log None None r.tokens at
+              fronts = agree_all n s r id k f r.log r.log o o r.tokens at
                   (record {
                     below = fit.below;
                     owned = fit.owned;
@@ -343,21 +344,21 @@ module _ {D : Type 0} (Initial : Bool → List ℕ → Type 0) (WordsFit : Histo
                     token_is = fit.token_is;
                   })
                   (λ j t ne q. q);
-              apart = apart_sole n s r id k r.log None;
+              apart = apart_sole n s r id k r.log o;
               stands = r.stands;
               words_fit = r.words_fit;
               home = r.home;
               out = r.out;
             })),
-        record {
-          log = r.log;
-          me_is = refl;
-          begins = fit.begins;
-          own_are = fit.own_are;
-          stands = r.stands;
-          cause = cause;
-        },
+        record { me_is = refl; stands = r.stands; fits = ((fit.begins, fit.own_are), tt); apart = (tt, tt) },
       )
+
+  -- and Cause holds of the log
+  pub learns_log : (n : ℕ) (s : Cells D) (r : R n s) (i id y k : ℕ) (f : History D) (Cause : History D → Type 0)
+      → get_elem? s.views id ≡ some (alone k f) → y ≡ get_or s.words i 0 → Cause r.log
+      → Misses n s i id y (Refused rest ready Cause k f)
+  learns_log n s r i id y k f Cause at same cause =
+      let t = learns_only n s r i id y k f None at same in (t.0, t.1, learned_now t.2 cause t.2.me_is)
 
   -- the place k, which knew f, enters if the word is a hit, and takes the slot; else Missed holds of its seat
   pub comes_or : (n slots id k i : ℕ) (f : History D) (o p : Option Token) (event : D → Event D) (g : ℕ → ℕ)
@@ -433,7 +434,7 @@ module _ {D : Type 0} (Initial : Bool → List ℕ → Type 0) (WordsFit : Histo
   pub gives_ok : (n slots id k i : ℕ) (g : ℕ → ℕ) (f : History D) (x : Guarded D) (next : Next) (event : D → Event D)
       (st : Step (Option (Guarded D)))
       → Gives rest ready event k f x next
-      → ((tokens : Tokens) (ws : List ℕ) → f.sizes.places ≡ n → k < n → WordsFit f tokens ws
+      → ((tokens : Tokens) (ws : List ℕ) → f.sizes.places ≡ n → k < n → tokens k ≡ None → WordsFit f tokens ws
       → WordsFit (with_event f (event x.state)) tokens (set ws i (g (get_or ws i 0))))
       → Allows (K n) slots id (alone k f, (0, Some x) ∷ []) i g
       (λ r m'. gives_as event st (alone k f, (0, Some x) ∷ []) r m')
@@ -446,7 +447,7 @@ module _ {D : Type 0} (Initial : Bool → List ℕ → Type 0) (WordsFit : Histo
       let told : WordsFit (with_event r.log e) r.tokens ws' =
       subst (λ (h : History D). WordsFit (with_event h e) r.tokens ws') (sym same)
       (words_fit r.tokens s.words (ap (λ (h : History D). h.sizes.places) (sym same)
-      ∙ ap (λ (m : Sizes). m.places) r.sized) fit.below
+      ∙ ap (λ (m : Sizes). m.places) r.sized) fit.below fit.token_is
       (subst (λ (h : History D). WordsFit h r.tokens s.words) same r.words_fit)) in
       let lies : Lies (with_event r.log e) x =
       subst (λ (h : History D). Lies (with_event h e) x) (sym same) (lies_of f e x p.same_data p.book) in

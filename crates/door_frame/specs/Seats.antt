@@ -36,10 +36,10 @@ module _ {D : Type 0} where
   EntersWith rest ready k event me x me' = (f : History D) → IsEmptyHanded k f me
       → EnteredBy rest ready k f (event f) x None me'
 
-  -- the place k, which was outside or away, was refused and learned a history of which Cause holds: its seat was me and
-  -- is now me'
-  abbrev pub IsRefused : Rest D → Ready D → (History D → Type 0) → ℕ → SeatState D → SeatState D → Type 0
-  IsRefused rest ready Cause k me me' = (f : History D) → IsEmptyHanded k f me → Refused rest ready Cause k f me'
+  -- the place k, which was outside or away, was refused and learned a history: Cause holds of what it knew before and of
+  -- that history. Its seat was me and is now me'
+  abbrev pub IsRefused : Rest D → Ready D → (History D → History D → Type 0) → ℕ → SeatState D → SeatState D → Type 0
+  IsRefused rest ready Cause k me me' = (f : History D) → IsEmptyHanded k f me → Refused rest ready (Cause f) k f me'
 
   -- the place k is still outside or away, and may have learned events of other places: its seat was me and is now me'
   abbrev pub StaysAway : ℕ → SeatState D → SeatState D → Type 0

@@ -68,7 +68,7 @@ fn return_with<D: MonitorData, S: Parking>(
 }
 
 /// Implements `Monitor::try_enter`: enters if the door admits the place at this moment, else returns the place, still
-/// outside: it has learned the history at some moment of this call, of which `refuses` holds.
+/// outside: it has learned the history at some moment of this call, and `refuses` says why it isn't inside.
 #[inline]
 pub fn try_enter<D: MonitorData, T: RawMonitor<D>, S: Parking>(
     door: &T,
@@ -84,7 +84,7 @@ pub fn try_enter<D: MonitorData, T: RawMonitor<D>, S: Parking>(
     ensures still_of { IfErr result (λ o. IsOut D.rest D.ready (T.kinds door.now) (T.id door.now) o) }
     ensures still_place { IfErr result (λ o. o.place ≡ out.place) }
     ensures learned { IfErr result (λ o. Grows out.place [] out.front o.front) }
-    ensures refused { IfErr result (λ o. T.refuses door.now o.front) }
+    ensures refused { IfErr result (λ o. T.refuses door.now out.place out.front o.front) }
 {
     let (mut seat, place, sleeper) = out.into_parts();
     match door.try_admit(&mut seat, place) {

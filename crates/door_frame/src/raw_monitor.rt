@@ -37,8 +37,9 @@ pub trait RawMonitor<D: MonitorData> {
     /// How many conditions the door has, and how many of them are Mesa conditions.
     ghost kinds: { Self → Kinds };
 
-    /// What holds of the history at some moment of an attempt that doesn't admit the place: why it doesn't.
-    ghost refuses: { Self → History D → Type 0 };
+    /// Why an attempt doesn't admit the place with this number, by the history that the place knew before it and the one
+    /// that it knows after it.
+    ghost refuses: { Self → ℕ → History D → History D → Type 0 };
 
     /// The type of what `release` returns.
     type Shown: Drop;
@@ -48,14 +49,14 @@ pub trait RawMonitor<D: MonitorData> {
     ghost is_woken: { DoorId → Next → Self.Shown → Type 0 };
 
     /// Admits the place if it may enter at this moment, and takes the guarded box. Else the place learns the history at
-    /// some moment of this call, of which `refuses` holds. Never blocks.
+    /// some moment of this call, and `refuses` says why it isn't admitted. Never blocks.
     fn try_admit(&self, seat: &mut DoorSeat<D>, place: usize) -> Option<GuardedBox<D>>
         requires table { seat.old.table_id ≡ (id self.now).table }
         requires outside { IsEntering place seat.old.me }
         ensures table { seat.new.table_id ≡ seat.old.table_id }
         ensures enters_with { IfSome result (λ guarded. EntersWith D.rest D.ready place (λ f. event.Admit place)
             seat.old.me guarded seat.new.me) }
-        ensures refused { IfNone result (IsRefused D.rest D.ready (refuses self.now) place
+        ensures refused { IfNone result (IsRefused D.rest D.ready (refuses self.now place) place
             seat.old.me seat.new.me) };
 
     /// Lets the place return if the monitor is owed to it at this moment, and takes the guarded box. Else the place
@@ -67,7 +68,7 @@ pub trait RawMonitor<D: MonitorData> {
         ensures table { seat.new.table_id ≡ seat.old.table_id }
         ensures enters_with { IfSome result (λ guarded. EntersWith D.rest D.ready place (due place)
             seat.old.me guarded seat.new.me) }
-        ensures refused { IfNone result (IsRefused D.rest D.ready (NotOwed place) place seat.old.me seat.new.me) };
+        ensures refused { IfNone result (IsRefused D.rest D.ready (λ f. NotOwed place) place seat.old.me seat.new.me) };
 
     /// Releases the monitor as `how` says: puts the guarded box back, and then writes that `next` resumes. A door that
     /// wakes its places then wakes that place, and the result shows it.

@@ -169,7 +169,7 @@ impl<D: MonitorData + Send, T: Runs<D>> Monitor<D> for RunningMonitor<T> {
 
     ghost front_in = { λ i. i.front };
 
-    ghost refuses = { λ m h. T.refuses m h };
+    ghost refuses = { λ m k f h. T.refuses m k f h };
 
     ghost with_data = { λ i d. with_state i d };
 

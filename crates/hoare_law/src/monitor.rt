@@ -66,8 +66,9 @@ pub trait Monitor<D: MonitorData> {
     /// The front of a place inside: the history that it knows.
     ghost front_in: { Self.In → History D };
 
-    /// What holds of the history at some moment of a `try_enter` that doesn't enter: why it doesn't.
-    ghost refuses: { Self → History D → Type 0 };
+    /// Why a `try_enter` of the place with this number doesn't enter, by the history that the place knew before it and
+    /// the one that it knows after it.
+    ghost refuses: { Self → ℕ → History D → History D → Type 0 };
 
     /// The place inside with other data in hand.
     ghost with_data: { Self.In → D → Self.In };
@@ -85,10 +86,10 @@ pub trait Monitor<D: MonitorData> {
     /// Enters as `enter` does if that is possible at this moment; otherwise returns the place, still outside, as `Err`.
     /// Never blocks.
     ///
-    /// A place that didn't enter has learned the history at some moment of this call, of which `refuses` holds. On a
-    /// baton door it is a place's turn at that moment: a place is inside, or the monitor is owed to one. On a ticket
-    /// door `refuses` says nothing: there the call may also fail if another place has taken a ticket, or attempts to
-    /// enter at the same moment, or if a word of the monitor changed while the call read it.
+    /// A place that didn't enter has learned the history at some moment of this call, and `refuses` says why. On a baton
+    /// door it is a place's turn at that moment: a place is inside, or the monitor is owed to one. On a ticket door, at
+    /// that moment or an earlier one of this call, it is a place's turn or another place is outside: the call fails if
+    /// another place has taken a ticket, attempts to enter at the same moment, or enters meanwhile.
     fn try_enter(&self, out: Self::Out) -> Result<Self::In, Self::Out>
         requires { is_of self.now out }
         ensures of { IfOk result (λ i. is_of_in self.now i) }
@@ -99,7 +100,7 @@ pub trait Monitor<D: MonitorData> {
         ensures still_of { IfErr result (λ o. is_of self.now o) }
         ensures still_place { IfErr result (λ o. place o ≡ place out) }
         ensures learned { IfErr result (λ o. Grows (place out) [] (front out) (front o)) }
-        ensures refused { IfErr result (λ o. refuses self.now (front o)) };
+        ensures refused { IfErr result (λ o. refuses self.now (place out) (front out) (front o)) };
 
     /// Leaves the monitor; the place is then outside. The caller must make `rest` true of the data and the waiting
     /// priorities.

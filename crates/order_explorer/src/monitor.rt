@@ -39,7 +39,7 @@ impl<D: MonitorData + Send> Monitor<D> for Explored<D> {
 
     ghost front_in = { λ i. i.front };
 
-    ghost refuses = { λ m h. refuses_at m.door h };
+    ghost refuses = { λ m k f h. refuses_at m.door k f h };
 
     ghost with_data = { λ i d. with_state i d };
 

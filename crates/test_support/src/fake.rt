@@ -141,7 +141,7 @@ impl<D: MonitorData + Drop + Send> Monitor<D> for Fake<D> {
 
     ghost front_in = { λ i. i.seat.me.0 };
 
-    ghost refuses = { λ m h. ⊥ };
+    ghost refuses = { λ m k f h. ⊥ };
 
     ghost with_data = { λ i d. record i { state = d } };
 

@@ -1,8 +1,15 @@
 -- The holder of the gate, and the tokens then.
-use Rattle.std.proofs.Common.{◌≡◌, ◌≢◌, ℕ, ◌+◌, eqb, cond, List, [], ◌∷◌, ◌++◌, Option, Some, None, sym}
-use Rattle.std.proofs.Common.{ap, ◌∙◌, subst, arith, eq-eqb, ne_eqb}
+use Rattle.std.proofs.Common.{◌≡◌, ◌≢◌, ⊎_elim, inl, inr, ℕ, ◌+◌, eqb, cond, List, [], ◌∷◌, ◌++◌, Option, Some, None}
+use Rattle.std.proofs.Common.{sym, ap, ◌∙◌, subst, arith, eq-eqb, ne_eqb, true≢false}
 use mathlib.Core.Logic.{dite}
 use native.Mathlib.Decide.{ℕ_discrete}
+use Rattle.hoare_law.specs.declared.event.Event.{Event}
+use Rattle.hoare_law.specs.declared.event.History.{History}
+use Rattle.hoare_law.specs.declared.turn.Turn.TheVariants.{Held}
+use Rattle.hoare_law.specs.Events.{place_of, with_event}
+use Rattle.hoare_law.specs.Turns.{turn, outside}
+use Rattle.hoare_law.proofs.Held.{held_one, outside-held}
+use Rattle.hoare_law.proofs.Turns.{outside-other}
 use Rattle.wait_book.specs.Contents.{times}
 use Rattle.wait_book.proofs.Times.{one_apart, times-append}
 use Rattle.door_frame.specs.declared.view.Token.{Token}
@@ -10,7 +17,7 @@ use Rattle.door_frame.specs.declared.view.Token.TheVariants as token
 use Rattle.door_frame.specs.Rule.{Tokens}
 use Rattle.door_frame.proofs.Views.{given_to, given_here, given_else}
 use Rattle.ticket_door.specs.Queue.{ticket_in}
-use Rattle.ticket_door.specs.Rule.{Gate, open_gate, shut_by, token_in, IsKept}
+use Rattle.ticket_door.specs.Rule.{Gate, open_gate, shut_by, token_in, HasHolder, IsKept}
 use Rattle.ticket_door.proofs.Queue.{None≢Some, ticket_only, ticket_none, none_ticket, ticket_last, ticket_kept}
 
 -- the place that shut the gate has it
@@ -108,6 +115,33 @@ serves_kept (shut_by i v) first served a q h = record {
   few = h.few;
   apart = h.apart;
 }
+
+-- the gate's holder is where it was after an event of the place k, which has no token, if no other place than k is inside
+pub holder_stays : {D : Type 0} (n : ℕ) (f : History D) (e : Event D) (k : ℕ) (g : Gate) (a q : List ℕ) → place_of e ≡ k
+    → token_in g a q k ≡ None → ((j : ℕ) → turn f.events ≡ Held j → j ≡ k) → HasHolder n f g
+    → HasHolder n (with_event f e) g
+unfolding with_event
+holder_stays n f e k open_gate a q mine none only h = tt
+holder_stays n f e k (shut_by j v) a q mine none only h =
+    let ne : k ≢ j = not_shut j v a q k none in (
+      h.0,
+      ⊎_elim (λ out. inl (outside-other j f.events e (λ same. ne (sym mine ∙ same)) ∙ out))
+          (λ held. absurd (ne (sym (only j held)))) h.1,
+    )
+
+-- and after an event by which the place k stays inside
+pub holder_held : {D : Type 0} (n : ℕ) (f : History D) (e : Event D) (k : ℕ) (g : Gate) → place_of e ≡ k
+    → turn f.events ≡ Held k → turn (with_event f e).events ≡ Held k → HasHolder n f g → HasHolder n (with_event f e) g
+unfolding with_event
+holder_held n f e k open_gate mine held stays h = tt
+holder_held n f e k (shut_by j v) mine held stays h = (
+  h.0,
+  ⊎_elim
+      (λ out. inl (outside-other j f.events e
+      (λ same. true≢false (sym out ∙ ap (λ i. outside i f.events) (sym same ∙ mine) ∙ outside-held f.events k held))
+      ∙ out))
+      (λ is. inr (stays ∙ ap (λ i. Held i) (sym (held_one f.events j k is held)))) h.1,
+)
 
 -- the place that shuts the gate has it
 pub closes_gate_tokens : (a q : List ℕ) (k v : ℕ) (tokens : Tokens) → ((j : ℕ) → tokens j ≡ ticket_in a q j)

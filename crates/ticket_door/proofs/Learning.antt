@@ -6,6 +6,7 @@ use lib.ListN.{get_elem?}
 use Rattle.atomic_table.specs.Table.{keeps, Allows}
 use Rattle.atomic_table.proofs.Lists.{at_set}
 use Rattle.hoare_law.specs.declared.event.History.{History}
+use Rattle.hoare_law.specs.declared.event.Sizes.{Sizes}
 use Rattle.hoare_law.specs.Sizes.{Kinds}
 use Rattle.hoare_law.specs.Events.{own}
 use Rattle.hoare_law.specs.Lawful.{Rest, Ready}
@@ -42,7 +43,8 @@ module _ {D : Type 0} (Initial : Bool → List ℕ → Type 0) (WordsFit : Histo
   -- `draws_ok` of the frame, for a place that also learns the log
   pub draws_and_learns : (n slots id k i : ℕ) (f : History D) (o : Option Token) (g : ℕ → ℕ)
       (Then : History D → Option Token → ℕ → Type 0)
-      → ((log : History D) (tokens : Tokens) (ws : List ℕ) → k < n → own k log.events ≡ own k f.events → tokens k ≡ o
+      → ((log : History D) (tokens : Tokens) (ws : List ℕ) → log.sizes.places ≡ n → k < n
+      → own k log.events ≡ own k f.events → tokens k ≡ o
       → WordsFit log tokens ws → (o' : Option Token) × (tokens' : Tokens) × (tokens' k ≡ o')
       × ((j : ℕ) → j ≢ k → tokens' j ≡ tokens j) × WordsFit log tokens' (set ws i (g (get_or ws i 0)))
       × Then log o' (get_or ws i 0))
@@ -51,7 +53,8 @@ module _ {D : Type 0} (Initial : Bool → List ℕ → Type 0) (WordsFit : Histo
   draws_and_learns n slots id k i f o g Then step_ s kept wide at small =
       let r = running Initial WordsFit rest ready kinds n s kept id (knows k f o ∷ []) at in
       let fit = (r.fronts id (sole k f o) at).0 in
-      let d = step_ r.log r.tokens s.words fit.below fit.own_are fit.token_is r.words_fit in
+      let d = step_ r.log r.tokens s.words (ap (λ (m : Sizes). m.places) r.sized) fit.below fit.own_are fit.token_is
+      r.words_fit in
       let w : SeatView D = sole k r.log d.0 in (
         w,
         keeps,

@@ -3,6 +3,7 @@ pub mod Gate
 pub mod Turns
 pub mod Opening
 pub mod Learning
+pub mod Barring
 pub mod Serving
 pub mod Trying
 pub mod Ringing

@@ -33,6 +33,7 @@ module _ {D : Type 0} (first n : ℕ) where
     below = λ k some. absurd (omega (arith, some));
     are_outside = λ k some. absurd (omega (arith, some));
     gate = open_gate;
+    holder = tt;
     tokens_are = λ k. refl;
     next = st.next ∙ ap (λ (m : ℕ). m % 2 ^ 64) (let same : first ≡ first + 0 = omega arith in same);
     served = 0;

@@ -13,7 +13,7 @@ use Rattle.hoare_law.specs.declared.turn.Turn.{Turn}
 use Rattle.hoare_law.specs.Events.{latest_data, with_event}
 use Rattle.hoare_law.specs.Lawful.{Rest, Ready}
 use Rattle.hoare_law.specs.Turns.{turn, outside}
-use Rattle.hoare_law.proofs.Held.{outside-held}
+use Rattle.hoare_law.proofs.Held.{held_one, outside-held}
 use Rattle.wait_book.specs.Contents.{times}
 use Rattle.wait_book.specs.declared.steps.Next.TheVariants as next
 use Rattle.door_frame.specs.declared.guarded.Guarded.{Guarded}
@@ -23,11 +23,13 @@ use Rattle.door_frame.specs.Steps.{SeatState, Gives, Refused, gives_as, due}
 use Rattle.door_frame.specs.Views.{alone}
 use Rattle.door_frame.proofs.Steps as frame
 use Rattle.hoare_law.specs.Admissions.{admissions, admitted}
-use Rattle.ticket_door.specs.Rule.{Initial, WordsFit, token_in, IsKept, next_at, serving_at, bell_at, taken, bell_value}
+use Rattle.ticket_door.specs.Rule.{Initial, WordsFit, HasHolder, token_in, IsKept, next_at, serving_at, bell_at, taken}
+use Rattle.ticket_door.specs.Rule.{bell_value}
 use Rattle.ticket_door.specs.Steps.{takes_bell, TakesBellAt}
 use Rattle.hoare_law.proofs.Admissions.{admitted-length, admitted-other}
 use Rattle.ticket_door.proofs.Turns.{for_next, rings_due, bell_value_else, bell_value_due, no_admit, held_busy}
-use Rattle.ticket_door.proofs.Turns.{due_busy}
+use Rattle.ticket_door.proofs.Gate.{holder_stays}
+use Rattle.ticket_door.proofs.Turns.{due_busy, due_not_held}
 use Rattle.ticket_door.proofs.Turns.{due_inside, still_outside}
 
 module _ {D : Type 0} (first n : ℕ) where
@@ -37,8 +39,9 @@ module _ {D : Type 0} (first n : ℕ) where
       → bell_value (turn h.events) k ≡ y → ((j : ℕ) → j ≢ k → bell_value (turn h.events) j ≡ bell_value (turn f.events)
       j)
       → (t : WordsFit first n f tokens ws) → ((j : ℕ) → 0 < times j t.queue → outside j h.events ≡ true)
+      → HasHolder n h t.gate
       → WordsFit first n h tokens (set ws (bell_at k) y)
-  rewritten f h tokens ws k y small before after alike here else_ t out =
+  rewritten f h tokens ws k y small before after alike here else_ t out holder =
       let same : admissions h.events ≡ admissions f.events =
       sym (admitted-length h.events) ∙ ap length alike ∙ admitted-length f.events in
       let wide = t.words_are in record {
@@ -48,6 +51,7 @@ module _ {D : Type 0} (first n : ℕ) where
         below = t.below;
         are_outside = out;
         gate = t.gate;
+        holder = holder;
         tokens_are = λ j. t.tokens_are j ∙ ap (λ (b : List ℕ). token_in t.gate b t.queue j) (sym alike);
         next = get_or-set_other ws (bell_at k) next_at y 0 (λ eq. omega (arith, eq)) ∙ t.next
             ∙ ap (λ (m : ℕ). (first + (m + length t.queue)) % 2 ^ 64) (sym same);
@@ -76,12 +80,14 @@ module _ {D : Type 0} (first n : ℕ) where
     gives_ring slots id k j f x event st small p =
         frame.gives_ok (Initial first n) (WordsFit first n) rest ready kinds n slots id k (bell_at j) (λ _. 1) f x
         (next.For j) event st p
-        (λ tokens ws places below t. let h : History D = with_event f (event x.state) in
+        (λ tokens ws places below none t. let h : History D = with_event f (event x.state) in
         let r = rings_due j (turn h.events) (for_next (turn h.events) j (sym p.next_is)) in
         rewritten f h tokens ws j 1 small (ap taken p.inside) r.busy
         (admitted-other f (event x.state) (no_admit f (event x.state) p.allowed (held_busy k _ p.inside))) r.here
         (λ i ne. r.else_ i ne ∙ sym (ap (λ (u : Turn). bell_value u i) p.inside)) t
-        (still_outside f (event x.state) k t.queue p.mine (outside-held f.events k p.inside) t.are_outside))
+        (still_outside f (event x.state) k t.queue p.mine (outside-held f.events k p.inside) t.are_outside)
+        (holder_stays n f (event x.state) k t.gate (admitted f.events) t.queue p.mine (sym (t.tokens_are k) ∙ none)
+        (λ i is. held_one f.events i k is p.inside) t.holder))
 
     pub takes_bell_ok : (slots id k : ℕ) (f : History D) (st : Step (Option (Guarded D)))
         → Allows K slots id (alone k f, []) (bell_at k) (λ _. 0) (takes_bell rest ready st (alone k f, []))
@@ -114,7 +120,9 @@ module _ {D : Type 0} (first n : ℕ) where
               (λ (u : Turn). bell_value u k) e.inside)
               (λ j ne. ap (λ (u : Turn). bell_value u j) e.inside ∙ sym (r.else_ j ne)) t
               (still_outside log (due k f (latest_data log)) k t.queue e.mine (due_inside log k stands.legal is)
-              t.are_outside);
+              t.are_outside)
+              (holder_stays n log (due k f (latest_data log)) k t.gate (admitted log.events) t.queue e.mine
+              (sym (t.tokens_are k) ∙ has) (λ i held. absurd (due_not_held k i _ is held)) t.holder);
         }))
 
     -- the same of a seat with that view, and a word that is the bell's

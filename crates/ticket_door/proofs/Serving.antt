@@ -26,7 +26,7 @@ use Rattle.door_frame.specs.Steps.{SeatState, Gives, Learns, Notes, gives_as, no
 use Rattle.door_frame.specs.Views.{alone, asking, knows}
 use Rattle.hoare_law.proofs.Ended.{turn-outside}
 use Rattle.hoare_law.proofs.Entering.{outside-same}
-use Rattle.hoare_law.proofs.Held.{outside-held}
+use Rattle.hoare_law.proofs.Held.{held_one, outside-held}
 use Rattle.hoare_law.proofs.Turns.{outside-other}
 use Rattle.door_frame.proofs.Steps as frame
 use Rattle.door_frame.proofs.Views.{given_to, given_here, given_else}
@@ -41,6 +41,7 @@ use Rattle.ticket_door.specs.Steps.{takes_ticket, polls_ticket, PollsTicketAt, T
 use Rattle.hoare_law.proofs.Admissions.{admissions-admit, admissions-other}
 use Rattle.hoare_law.proofs.Admissions.{admitted-length, admitted-admit, admitted-other}
 use Rattle.ticket_door.proofs.Gate.{has_ticket, has_none, takes_ticket_tokens, takes_ticket_kept, serves_kept}
+use Rattle.ticket_door.proofs.Gate.{holder_held, holder_stays}
 use Rattle.ticket_door.proofs.Learning.{draws_and_learns}
 use Rattle.ticket_door.proofs.Queue.{Ticket-injective, ticket_range, ticket_first, none_ticket, ticket_else}
 use Rattle.ticket_door.proofs.Queue.{once_more, all_more}
@@ -96,6 +97,7 @@ module _ {D : Type 0} (first n : ℕ) where
         below = all_more (λ (j : ℕ). j < n) q k small t.below;
         are_outside = all_more (λ (j : ℕ). outside j log.events ≡ true) q k out t.are_outside;
         gate = t.gate;
+        holder = t.holder;
         tokens_are = takes_ticket_tokens t.gate a q k tokens t.tokens_are none;
         next =
             get_or-set_same ws next_at _ 0 (omega (arith, wide)) ∙ ap (λ (m : ℕ). (m + 1) % 2 ^ 64) t.next
@@ -135,6 +137,7 @@ module _ {D : Type 0} (first n : ℕ) where
             omega (arith, z, some) in
             outside-other j log.events (Admit k s) apart ∙ t.are_outside j (takes_ticket_too j some);
         gate = open_gate;
+        holder = tt;
         tokens_are = λ j. dite (ℕ_discrete j k)
             (λ same. subst (λ (i : ℕ). given_to tokens k None i ≡ ticket_in (admitted h.events) rest i) (sym same)
             (given_here tokens k None ∙ sym (none_ticket (admitted h.events) rest k out)))
@@ -156,9 +159,9 @@ module _ {D : Type 0} (first n : ℕ) where
   next_served : (f : History D) (e : Event D) (tokens : Tokens) (ws : List ℕ) (k : ℕ) → place_of e ≡ k
       → turn f.events ≡ Held k
       → turn (with_event f e).events ≡ Free
-      → is_admit e ≡ false → WordsFit first n f tokens ws
+      → is_admit e ≡ false → tokens k ≡ None → WordsFit first n f tokens ws
       → WordsFit first n (with_event f e) tokens (set ws serving_at ((get_or ws serving_at 0 + 2) % 2 ^ 64))
-  next_served f e tokens ws k mine held free other t =
+  next_served f e tokens ws k mine held free other none t =
       let same = admissions-other f e other in
       let wide = t.words_are in let before : taken (turn f.events) ≡ 1 = ap taken held in
       let after : taken (turn (with_event f e).events) ≡ 0 = ap taken free in record {
@@ -168,6 +171,8 @@ module _ {D : Type 0} (first n : ℕ) where
         below = t.below;
         are_outside = still_outside f e k t.queue mine (outside-held f.events k held) t.are_outside;
         gate = t.gate;
+        holder = holder_stays n f e k t.gate (admitted f.events) t.queue mine (sym (t.tokens_are k) ∙ none)
+            (λ j is. held_one f.events j k is held) t.holder;
         tokens_are = λ j. t.tokens_are j
             ∙ ap (λ (b : List ℕ). token_in t.gate b t.queue j) (sym (admitted-other f e other));
         next = get_or-set_other ws serving_at next_at _ 0 (λ eq. omega (arith, eq)) ∙ t.next
@@ -198,6 +203,7 @@ module _ {D : Type 0} (first n : ℕ) where
         below = t.below;
         are_outside = still_outside f e k t.queue mine (outside-held f.events k held) t.are_outside;
         gate = t.gate;
+        holder = holder_held n f e k t.gate mine held stays t.holder;
         tokens_are = λ j. t.tokens_are j
             ∙ ap (λ (b : List ℕ). token_in t.gate b t.queue j) (sym (admitted-other f e other));
         next = t.next ∙ ap (λ (m : ℕ). (first + (m + length t.queue)) % 2 ^ 64) (sym same);
@@ -263,7 +269,7 @@ module _ {D : Type 0} (first n : ℕ) where
         (λ r m (d : Drawn k f r m) j g is. let q = frame.alone_is k j f g [] [] is in takes k j f g r m q.0 q.1 d)
         (draws_and_learns (Initial first n) (WordsFit first n) rest ready kinds n slots id k next_at f None
         (λ r. (r + 1) % 2 ^ 64) (IsNext k)
-        (λ log tokens ws small same none t. let x : List ℕ = admitted log.events ++ t.queue in (
+        (λ log tokens ws places small same none t. let x : List ℕ = admitted log.events ++ t.queue in (
           Some (token.Ticket x),
           given_to tokens k (Some (token.Ticket x)),
           given_here tokens k (Some (token.Ticket x)),
@@ -356,9 +362,9 @@ module _ {D : Type 0} (first n : ℕ) where
     gives_open slots id k f x event st p =
         frame.gives_ok (Initial first n) (WordsFit first n) rest ready kinds n slots id k serving_at
         (λ r. (r + 2) % 2 ^ 64) f x next.Free event st p
-        (λ tokens ws places small t. next_served f (event x.state) tokens ws k p.mine p.inside
+        (λ tokens ws places small none t. next_served f (event x.state) tokens ws k p.mine p.inside
         (free_next _ (sym p.next_is))
-        (no_admit f (event x.state) p.allowed (held_busy k _ p.inside)) t)
+        (no_admit f (event x.state) p.allowed (held_busy k _ p.inside)) none t)
 
     -- the same of a seat with that view
     pub gives_open_at : (slots id k : ℕ) (f : History D) (x : Guarded D) (event : D → Event D)

@@ -86,6 +86,10 @@ pub due_busy : (k : ℕ) (t : Turn) → IsDue k t → t ≢ Free
 due_busy k t (owed c is) e = let no : Owed k c ≡ Free = sym is ∙ e in cc
 due_busy k t (returning is) e = let no : Return k ≡ Free = sym is ∙ e in cc
 
+pub due_not_held : (k j : ℕ) (t : Turn) → IsDue k t → t ≢ Held j
+due_not_held k j t (owed c is) e = let no : Owed k c ≡ Held j = sym is ∙ e in cc
+due_not_held k j t (returning is) e = let no : Return k ≡ Held j = sym is ∙ e in cc
+
 pub due_inside : {D : Type 0} (h : History D) (k : ℕ) → IsLegal h → IsDue k (turn h.events)
     → outside k h.events ≡ false
 due_inside h k legal (owed c is) = outside-owed h k c legal is

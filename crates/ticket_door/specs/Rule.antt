@@ -1,5 +1,5 @@
 -- What the words NEXT and SERVING and the bells say.
-use Rattle.std.specs.Prelude.{◌≡◌, ℕ, ◌+◌, ◌*◌, ◌%◌, ◌^◌, ◌<◌, ◌≤◌, ◌==◌, if◌then◌else◌, Bool, List, Option, Some}
+use Rattle.std.specs.Prelude.{◌≡◌, ◌⊎◌, ℕ, ◌+◌, ◌*◌, ◌%◌, ◌^◌, ◌<◌, ◌≤◌, ◌==◌, if◌then◌else◌, Bool, List, Option, Some}
 use Rattle.std.specs.Prelude.{true, slice_index, length}
 use Rattle.hoare_law.specs.declared.event.History.{History}
 use Rattle.hoare_law.specs.declared.turn.Turn.{Turn}
@@ -62,6 +62,11 @@ abbrev pub IsKept : ℕ → ℕ → ℕ → List ℕ → Gate → Type 0
 IsKept first served admitted queue open_gate = Unit {0}
 IsKept first served admitted queue (shut_by k v) = CloseGate first k v served admitted queue
 
+-- the place that holds the gate, one of n, is outside or inside
+abbrev pub HasHolder : {D : Type 0} → ℕ → History D → Gate → Type 0
+HasHolder n log open_gate = Unit {0}
+HasHolder n log (shut_by k v) = (k < n) × ((outside k log.events ≡ true) ⊎ (turn log.events ≡ Held k))
+
 -- the words before the door opens
 pub record Initial (first n : ℕ) (begun : Bool) (words : List ℕ) : Type 0 where
   pub words_are : length words ≡ 8 * n + 16
@@ -82,6 +87,7 @@ pub record WordsFit {D : Type 0} (first n : ℕ) (log : History D) (tokens : Tok
   pub are_outside : (k : ℕ) → 0 < times k queue → outside k log.events ≡ true
   -- the holder of the gate
   pub gate : Gate
+  pub holder : HasHolder n log gate
   pub tokens_are : (k : ℕ) → tokens k ≡ token_in gate (admitted log.events) queue k
   pub next : slice_index words next_at ≡ (first + (admissions log.events + length queue)) % 2 ^ 64
   -- how often the monitor was opened to entering threads: the number of admissions, less one while a turn lasts

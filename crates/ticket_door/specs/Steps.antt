@@ -5,11 +5,11 @@ use Rattle.hoare_law.specs.declared.event.History.{History}
 use Rattle.hoare_law.specs.declared.event.Event.TheVariants.{Admit}
 use Rattle.hoare_law.specs.Lawful.{Rest, Ready}
 use Rattle.door_frame.specs.Refusals.{NotOwed}
-use Rattle.door_frame.specs.Steps.{SeatState, StepContract, EntryStep, EntryStepOr, EntryStepWith, Learns, Refused}
+use Rattle.door_frame.specs.Steps.{SeatState, StepContract, EntryStep, EntryStepOr, Learns, Refused}
 use Rattle.door_frame.specs.Steps.{due}
 use Rattle.door_frame.specs.Views.{alone, asking, trying, knows}
 use Rattle.door_frame.specs.declared.view.Token.TheVariants.{Ticket, Gate}
-use Rattle.ticket_door.specs.Tries.{Reopened}
+use Rattle.ticket_door.specs.Tries.{MissesTicket, NextTells, ServingTells, Reopened}
 use Rattle.ticket_door.specs.Queue.{AreAhead}
 use Rattle.hoare_law.specs.Admissions.{admitted}
 
@@ -42,20 +42,35 @@ module _ {D : Type 0} where
       (k : ℕ) (f : History D) (before : List ℕ) → m ≡ (asking k f before, [])
       → PollsTicketAt first rest ready k f before m r m'
 
-  -- a place shuts the gate if SERVING is v
-  abbrev pub ClosesGateAt : ℕ → ℕ → History D → SeatState D → ℕ → SeatState D → Type 0
-  ClosesGateAt v k f m r m' = ((r ≡ v → ⊥) → m' ≡ m) × (r ≡ v → m' ≡ (trying k f v, []))
+  -- a place that tries reads a word, of which Tells holds and the history that the place learned
+  abbrev pub reads : (ℕ → ℕ → History D → Type 0) → Rest D → Ready D → StepContract D
+  reads Tells rest ready st m r m' = (k : ℕ) (f : History D) → m ≡ (alone k f, []) → Refused rest ready (Tells k r) k f m'
 
-  abbrev pub closes_gate : StepContract D
-  closes_gate st m r m' = (k : ℕ) (f : History D) → m ≡ (alone k f, []) → ClosesGateAt st.first k f m r m'
+  abbrev pub reads_next : ℕ → Rest D → Ready D → StepContract D
+  reads_next first = reads (NextTells first)
 
-  -- the place k, which shut the gate when SERVING was v, is admitted if NEXT is w
-  abbrev pub AdmitsTryAt : ℕ → Rest D → Ready D → ℕ → History D → ℕ → SeatState D → ℕ → SeatState D → Type 0
-  AdmitsTryAt w rest ready k f v = EntryStepWith rest ready (Some (Gate v)) (λ r. r ≡ w) (λ log. Unit {0}) k f (Admit k)
+  abbrev pub reads_serving : ℕ → Rest D → Ready D → StepContract D
+  reads_serving first = reads (ServingTells first)
 
-  abbrev pub admits_try : Rest D → Ready D → StepContract D
-  admits_try rest ready st m r m' =
-      (k : ℕ) (f : History D) (v : ℕ) → m ≡ (trying k f v, []) → AdmitsTryAt st.first rest ready k f v m r m'
+  -- a place shuts the gate if SERVING is v; else it reads SERVING
+  abbrev pub ClosesGateAt : ℕ → ℕ → Rest D → Ready D → ℕ → History D → ℕ → SeatState D → Type 0
+  ClosesGateAt v first rest ready k f r m' =
+      ((r ≡ v → ⊥) → Refused rest ready (ServingTells first k r) k f m')
+      × (r ≡ v → (g : History D) × Learns rest ready g (knows k f (Some (Gate v)) ∷ []) m')
+
+  abbrev pub closes_gate : ℕ → Rest D → Ready D → StepContract D
+  closes_gate first rest ready st m r m' =
+      (k : ℕ) (f : History D) → m ≡ (alone k f, []) → ClosesGateAt st.first first rest ready k f r m'
+
+  -- the place k, which shut the gate when SERVING was v, is admitted if NEXT is w; else it learns that w is passed
+  abbrev pub AdmitsTryAt : ℕ → ℕ → Rest D → Ready D → ℕ → History D → ℕ → ℕ → SeatState D → Type 0
+  AdmitsTryAt w first rest ready k f v =
+      EntryStepOr rest ready (Some (Gate v)) (λ r. r ≡ w) (MissesTicket first rest ready w k f v) (λ log. Unit {0}) k f
+      (Admit k)
+
+  abbrev pub admits_try : ℕ → Rest D → Ready D → StepContract D
+  admits_try first rest ready st m r m' =
+      (k : ℕ) (f : History D) (v : ℕ) → m ≡ (trying k f v, []) → AdmitsTryAt st.first first rest ready k f v r m'
 
   -- the place that shut the gate opens it again
   abbrev pub opens_gate : StepContract D

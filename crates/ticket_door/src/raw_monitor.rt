@@ -1,10 +1,11 @@
 //! The raw monitor of a ticket door.
-ghost use Rattle.std.specs.Prelude.{◌≡◌, ◌<◌, ℕ, ⊤, IfOk, IfErr, All};
+ghost use Rattle.std.specs.Prelude.{◌≡◌, ◌<◌, ℕ, IfOk, IfErr, All};
 ghost use Rattle.hoare_law.specs.Priorities.{nobody};
 ghost use Rattle.hoare_law.specs.Sizes.{kinds_of};
 ghost use Rattle.wait_book.specs.Contents.{IsPlaceBelow};
 ghost use Rattle.door_frame.specs.Making.{AreParts, IsMadeOf};
 ghost use Rattle.door_frame.specs.Steps.{MayGive, MayNote};
+ghost use Rattle.door_frame.specs.Refusals.{WasBarred};
 ghost use Rattle.door_frame.specs.Places.{Closes, Entered, HasPlace, IsOut, IsWoken};
 ghost use Rattle.door_frame.specs.Seats.{GoesOut, StaysIn};
 ghost use Rattle.door_frame.specs.Releases.{event_of};
@@ -14,13 +15,13 @@ use crate::door::RawTicketDoor;
 use crate::laws::open_at;
 use crate::place::{TicketIn, TicketOut};
 use crate::rule::TakeBell;
-use crate::words::{NEXT, RUNG, SERVING, SILENT, bell_of, served_as};
+use crate::words::{RUNG, SILENT, bell_of};
 use door_frame::guarded::GuardedBox;
 use door_frame::making::{Parts, closed};
 use door_frame::notification::Notification;
 use door_frame::raw_monitor::{Opens, RawMonitor, Runs, Wakes};
 use door_frame::release::Release;
-use door_frame::seat_steps::{DoorSeat, Learn};
+use door_frame::seat_steps::DoorSeat;
 use door_frame::slot::take_guarded;
 use door_frame::waking::Woken;
 use hoare_law::data::MonitorData;
@@ -34,31 +35,17 @@ impl<D: MonitorData> RawMonitor<D> for RawTicketDoor<D> {
 
     ghost kinds = { λ d. kinds_of D.CONDITIONS D.MESA };
 
-    /// Nothing: another place may have a ticket, or may attempt to enter, and no history says so.
-    ghost refuses = { λ d h. ⊤ };
+    /// At some moment of the attempt it is a place's turn, or another place is outside. No history says which places
+    /// have tickets, or attempt to enter: such a place is outside in it.
+    ghost refuses = { λ d k f h. WasBarred k f h };
 
     type Shown = Option<Woken>;
 
     ghost is_woken = { IsWoken };
 
-    /// Shuts the gate if NEXT and SERVING have the same ticket, tries to take that ticket, and opens the gate again.
-    /// Returns `None` if a place has the monitor or a ticket, and also if another place tries, or a word changes
-    /// between the polls. If the place isn't let in, it wakes the thread whose ticket is served, which may have gone to
-    /// sleep while the gate was shut. By the load of SERVING the place learns the history at that moment.
+    /// Attempts once, by `attempt`.
     fn try_admit(&self, seat: &mut DoorSeat<D>, place: usize) -> Option<GuardedBox<D>> {
-        let table = &self.table;
-        let ticket = table.shared.peek(NEXT);
-        let serving = table.shared.load::<Learn>(seat, SERVING);
-        if serving != served_as(ticket) || !self.shut(seat, place, ticket) {
-            return None;
-        }
-        let let_in = self.try_in(seat, place, ticket);
-        self.reopen(seat);
-        if !let_in {
-            self.wake_served();
-            return None;
-        }
-        Some(take_guarded(table, seat))
+        self.attempt::<Brand>(seat, place)
     }
 
     /// Swaps the bell of `place` to `SILENT`, once. Returns `None` if it wasn't rung: by the swap the place learns the

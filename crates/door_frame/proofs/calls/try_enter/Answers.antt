@@ -49,7 +49,8 @@ returns-in-None g c =
     let parts = c.into_parts-seat.ensures in
     let r = c.in-None.ensures.refused c.args.out.front (away_as parts.1 parts.2) in
     let o =
-    still_out c.args.out _ _ c.requires (place_id_on g.S.Parking.at _ c.in-None.ensures.table ∙ parts.0) parts.1 r
+    still_out (λ (k : ℕ). g.T.RawMonitor.refuses c.args.door.now k c.args.out.front) c.args.out _ _ c.requires
+    (place_id_on g.S.Parking.at _ c.in-None.ensures.table ∙ parts.0) parts.1 r
     (c.of_parts.ensures r.log r.me_is) in
     record {
       of = tt;

@@ -56,8 +56,19 @@ pub record AreAmong (p : Places) (q : ThreadPlaces) : Type 0 where
   pub totals : Contains p.totals.items q.totals
   pub board : Contains p.board.items q.board
 
--- by the fronts of its places q, thread k did these jobs and nothing else since the doors were opened
+-- each of the thread's places has the number k
+pub record HaveNumber (k : ℕ) (q : ThreadPlaces) : Type 0 where
+  pub items : q.items.place ≡ k
+  pub clock : q.clock.place ≡ k
+  pub pool : q.pool.place ≡ k
+  pub head : q.head.place ≡ k
+  pub totals : q.totals.place ≡ k
+  pub board : q.board.place ≡ k
+
+-- by the fronts of its places q, which are the places k, thread k did these jobs and nothing else since the doors were
+-- opened
 pub record HasWorked (k : ℕ) (jobs : List Served) (q : ThreadPlaces) : Type 0 where
+  pub numbered : HaveNumber k q
   pub first : ThreadPlaces
   pub fresh : IsFreshThread first
   pub works : Works k [] jobs first q
@@ -127,8 +138,7 @@ pub record AreClosed (d : Doors) (p : Places) (totals : Option Totals) (board : 
   pub value : board ≡ shared.value
 
 -- threads did these jobs: each door has a history from its opening to its close, which is legal and lawful, and in
--- which the workers did each job once, by the visits that `Does` says. That worker k's places have the number k isn't
--- said here, so nor is that place k made no other visits
+-- which the workers did each job once, by the visits that `Does` says; place k, that of worker k, made no others
 pub record IsServed (j : JobList) (r : Account) : Type 0 where
   pub histories : Histories
   pub items : IsWhole items_terms (j.workers + 2) histories.items

@@ -48,3 +48,16 @@ both-ok (Err e) y r v all is = let clash : Err e ≡ Ok v = sym all ∙ is in cc
 pub if-ok : {T E : Type 0} (P : Type 0) (r : Result T E) → ((v : T) → r ≡ Ok v → P) → IfOk r (λ _. P)
 if-ok P (Ok v) f = f v refl
 if-ok P (Err e) f = tt
+
+-- and what follows from six `Ok` results holds if the result that is joined of them is `Ok`
+pub if-six_ok : {E P : Type 0} (a b c d e f : Result (Unit {0}) E) {r s t u v : Result (Unit {0}) E}
+    → r ≡ result_and a b → s ≡ result_and r c → t ≡ result_and s d → u ≡ result_and t e → v ≡ result_and u f
+    → (a ≡ Ok tt → b ≡ Ok tt → c ≡ Ok tt → d ≡ Ok tt → e ≡ Ok tt → f ≡ Ok tt → P) → IfOk v (λ _. P)
+if-six_ok {P = P} a b c d e f {r} {s} {t} {u} {v} two three four five six follows =
+    if-ok P v (λ x is.
+    let i = both-ok u f v x six is in
+    let h = both-ok t e u i.0.0 five i.0.1 in
+    let g = both-ok s d t h.0.0 four h.0.1 in
+    let k = both-ok r c s g.0.0 three g.0.1 in
+    let j = both-ok a b r k.0.0 two k.0.1 in
+    follows j.0.1 j.1 k.1 g.1 h.1 i.1)

@@ -4,6 +4,7 @@ use Rattle.std.specs.Prelude.{IfSome, unwrap_or, ◌&&◌}
 use Rattle.std.specs.Option.{is_some}
 use Rattle.std.specs.Result.{is_err, is_ok}
 use Rattle.hoare_law.specs.declared.event.History.{History}
+use Rattle.hoare_law.proofs.Tests.{both_true}
 use Rattle.plain_schedulers.specs.declared.single.NotOut.{NotOut as SingleNotOut}
 use Rattle.plain_schedulers.specs.SingleTraces.{Acquires, Releases}
 use Rattle.sweep_schedulers.specs.declared.not_out.NotOut.{NotOut as SweepNotOut}
@@ -22,11 +23,6 @@ use Rattle.disk_service.specs.declared.data.Item.TheVariants.{Job}
 use Rattle.disk_service.specs.declared.thread_places.ThreadPlaces.{ThreadPlaces}
 use Rattle.disk_service.specs.JobsDone.{with_job, noted, BorrowsOnce, UsesDrive, SleepsOnce, Counts, Notes}
 use Rattle.disk_service.specs.JobsDone.{TakesItem, Reads, Does, DoesNext, HasDone, one_more}
-
-both-true : (a b : Bool) → (a && b) ≡ true → (a ≡ true) × (b ≡ true)
-both-true true true is = (refl, refl)
-both-true true false is = cc
-both-true false b is = cc
 
 ok-unless_err : {E : Type 0} (r : Result (Unit {0}) E) (b : Bool) → b ≡ is_err r → b ≡ false → r ≡ Ok tt
 ok-unless_err (Ok v) b tells accepted = refl
@@ -75,10 +71,10 @@ counted-once k d t u (Some x) (Ok v) a b f g h takes puts u_is x_is some ok true
     let same : u ≡ with_job t d = u_is ∙ x_is in
     record { found = t; front = g; takes = takes; puts = rw same at puts }
 counted-once k d t u (Some x) (Err e) a b f g h takes puts u_is x_is some ok true_both =
-    let ab : (a ≡ true) × (b ≡ true) = both-true a b true_both in
+    let ab : (a ≡ true) × (b ≡ true) = both_true a b true_both in
     let clash : false ≡ true = sym ok ∙ ab.1 in cc
 counted-once k d t u None r a b f g h takes puts u_is x_is some ok true_both =
-    let ab : (a ≡ true) × (b ≡ true) = both-true a b true_both in
+    let ab : (a ≡ true) × (b ≡ true) = both_true a b true_both in
     let clash : false ≡ true = sym some ∙ ab.0 in cc
 
 -- the jobs are on the board, unless they were too many for it or the board was refused
@@ -90,10 +86,10 @@ noted-once k more last t u (Some x) (Ok v) a b f g h starts ends u_is x_is some 
     let same : u ≡ noted t more last = u_is ∙ x_is in
     record { found = t; front = g; starts = starts; ends = rw same at ends }
 noted-once k more last t u (Some x) (Err e) a b f g h starts ends u_is x_is some ok true_both =
-    let ab : (a ≡ true) × (b ≡ true) = both-true a b true_both in
+    let ab : (a ≡ true) × (b ≡ true) = both_true a b true_both in
     let clash : false ≡ true = sym ok ∙ ab.1 in cc
 noted-once k more last t u None r a b f g h starts ends u_is x_is some ok true_both =
-    let ab : (a ≡ true) × (b ≡ true) = both-true a b true_both in
+    let ab : (a ≡ true) × (b ≡ true) = both_true a b true_both in
     let clash : false ≡ true = sym some ∙ ab.0 in cc
 
 -- the job is done by a thread that read its block, then counted it, and then wrote it on the board
@@ -129,5 +125,5 @@ pub done-next : (k i : ℕ) (before done after : List Served) (p n o q : ThreadP
     → (a ≡ true → HasDone k before p done n) → TakesItem k (Job i) n o → (b ≡ true → DoesNext k i done after o q)
     → (a && b) ≡ true → HasDone k before p after q
 done-next k i before done after p n o q a b has takes next all =
-    let ab : (a ≡ true) × (b ≡ true) = both-true a b all in
+    let ab : (a ≡ true) × (b ≡ true) = both_true a b all in
     one_more i done after n o q (has ab.0) takes (next ab.1)

@@ -5,6 +5,7 @@ use Rattle.std.specs.Prelude.{slice_index_or, ◌&&◌, ◌↔◌, IfOk, IsOk}
 use Rattle.std.specs.List.{Contains}
 use Rattle.std.proofs.lemmas.List.{get_or_append_left, length-append}
 use Rattle.std.proofs.lemmas.List.Elements.{Contains-push, All-contains}
+use Rattle.hoare_law.proofs.Tests.{both_true}
 use Rattle.door_frame.specs.Places.{DoorId, PlaceOut, IsInHistory}
 use Rattle.disk_jobs.specs.declared.fault.ServiceFault.{ServiceFault}
 use Rattle.disk_jobs.specs.declared.report.Report.{Report}
@@ -67,11 +68,6 @@ pub done-kept : (n : ℕ) (own : ThreadPlaces) (before after : Places) (jobs : L
 done-kept n own before after jobs put done =
     AreDoneBy-weaker (AreAmong before) (AreAmong after) (among-more own before after put) n jobs done
 
-both-true : (a b : Bool) → (a && b) ≡ true → (a ≡ true) × (b ≡ true)
-both-true true true is = (refl, refl)
-both-true true false is = cc
-both-true false b is = cc
-
 -- the same after a second thread's were
 pub done-still : (n m : ℕ) (first second : ThreadPlaces) (before between after : Places) (jobs : List Served) → n ≡ m
     → ArePut first before between → ArePut second between after → AreDoneBy (AreAmong before) n jobs
@@ -88,7 +84,7 @@ pub done-more : (n : ℕ) (own : ThreadPlaces) (before after : Places) (kept res
     → ArePut own before after → (b ≡ true → HasWorked n kept own) → (a ≡ true → AreDoneBy (AreAmong before) n results)
     → all ≡ results ++ kept → (a && b) ≡ true → AreDoneBy (AreAmong after) (n + 1) all
 done-more n own before after kept results all a b put worked done are both =
-    let ab : (a ≡ true) × (b ≡ true) = both-true a b both in
+    let ab : (a ≡ true) × (b ≡ true) = both_true a b both in
     one_more n (n + 1) results kept all own (done-kept n own before after results put (done ab.0))
     (worked ab.1) (among-last own before after put) refl are
 

@@ -68,3 +68,18 @@ module _ {D : Type 0} where
   met_out {rest = rest} {ready = ready} {kinds = kinds} {d = d} o p h out same at front stands told =
       subst (IsOut rest ready kinds d) (λ i. place_out (sym same i) (sym at i) (sym front i))
       (told_out rest ready kinds d o.place_id o h out.of out stands told.begins told.own_are)
+
+  -- a place of the door stands at its table
+  pub at_table : {rest : Rest D} {ready : Ready D} {kinds : Kinds} {d e : DoorId} {o : PlaceOut D}
+      → IsOut rest ready kinds d o → d ≡ e → o.place_id.table ≡ e.table
+  at_table out same = ap (λ (i : PlaceId). i.table) out.of ∙ ap (λ (d : DoorId). d.table) same
+
+  -- both places are still outside, and of their door
+  pub both_out : {rest : Rest D} {ready : Ready D} {kinds : Kinds} {d : DoorId} {a b p q : PlaceOut D}
+      → IsOut rest ready kinds d a → IsOut rest ready kinds d b
+      → (p.place_id ≡ a.place_id) × (q.place_id ≡ b.place_id) → (p.place ≡ a.place) × (q.place ≡ b.place)
+      → Stands rest ready q.front → Meets a b p q → IsOut rest ready kinds d p × IsOut rest ready kinds d q
+  both_out {a = a} {b} {p} {q} first second same at stands met = (
+    met_out a p q.front first same.0 at.0 met.one stands met.first,
+    met_out b q q.front second same.1 at.1 refl stands met.second,
+  )

@@ -1,15 +1,20 @@
--- How `Follows` is kept while a front grows.
-use Rattle.std.proofs.Common.{◌≡◌, ◌==◌, ℕ, List, [], ◌∷◌, ◌++◌, cond, refl, ap, sym, ◌∙◌, subst, eq-eqb, append_assoc}
-use Rattle.std.proofs.Common.{⊎_elim, inl, inr, ◌⊎◌}
+-- How `Follows` is kept while a front grows, and by what the procedures of a monitor add.
+use Rattle.std.proofs.Common.{◌≡◌, ◌==◌, ℕ, List, [], ◌∷◌, ◌++◌, cond, Some, refl, ap, sym, ◌∙◌, subst, eq-eqb}
+use Rattle.std.proofs.Common.{append_assoc, ⊎_elim, inl, inr, ◌⊎◌}
 use Rattle.std.proofs.lemmas.List.{append_cancel_left}
 use Rattle.std.proofs.lemmas.List.Elements.{filter-append}
 use Rattle.hoare_law.specs.declared.event.Event.{Event}
 use Rattle.hoare_law.specs.declared.event.History.{History}
-use Rattle.hoare_law.specs.Events.{place_of, own, with_event}
-use Rattle.hoare_law.specs.Growth.{Grows, AddsTwo}
-use Rattle.hoare_law.proofs.Events.{push-split, none-split}
+use Rattle.hoare_law.specs.declared.event.Event.TheVariants.{Admit, Wait, Signal, Pass, Leave, Resume, Back}
+use Rattle.hoare_law.specs.Events.{place_of, own, newest, with_event}
+use Rattle.hoare_law.specs.Growth.{Grows, AddsLast, AddsTwo, Finishes, exited, signalled, passed_on, just_left}
+use Rattle.hoare_law.proofs.Events.{newest-push, push-split, none-split}
 use Rattle.hoare_law.proofs.Entering.{own-last}
-use Rattle.sweep_schedulers.specs.Follows.{Follows}
+use Rattle.sweep_schedulers.specs.Follows.{Follows, Procedures, HasEntered, HasResumed, Continues, refused, ended}
+use Rattle.sweep_schedulers.specs.Follows.{nobody_waits, returned}
+
+pub newest-two : {X : Type 0} (us : List X) (x y : X) → newest (us ++ x ∷ y ∷ []) ≡ Some y
+newest-two us x y = ap newest (sym (append_assoc us (x ∷ []) (y ∷ []))) ∙ newest-push (us ++ x ∷ []) y
 
 -- an element of two lists is in one of them
 split_at : {X : Type 0} (f later g l : List X) (e : X) → f ++ later ≡ g ++ e ∷ l
@@ -86,3 +91,45 @@ module _ {S : Type 0} (continues : List (Event S) → Event S → Type 0) where
             ∙ ap (λ l. l ++ e ∷ []) (sym (own-last k f.events d first));
       })
       any
+
+-- what the procedures of a monitor add
+module _ {S : Type 0} (by : Procedures S) where
+  abbrev pub Keeps : ℕ → History S → Type 0
+  Keeps k h = Follows (Continues by) k h
+
+  pub enters : (k : ℕ) (a : S) (f g : History S) → Keeps k f → AddsLast f (Admit k a) g
+      → Keeps k g × HasEntered k g.events a
+  enters k a f g follows adds = (
+    by_one (Continues by) k (Admit k a) f g follows adds.grows (λ l. tt),
+    ap newest adds.grows.adds ∙ newest-push (own k f.events) (Admit k a),
+  )
+
+  -- a wait and its resumption
+  pub resumes : (k c p : ℕ) (a found : S) (e g : History S) → Keeps k e → by.waits k c p e.events a
+      → AddsTwo e (Wait k c p a) (Resume k c found) g → Keeps k g × HasResumed k c p g.events a found
+  resumes k c p a found e g follows waits adds = (
+    by_two (Continues by) k e g (Wait k c p a) (Resume k c found) refl refl follows adds waits (λ l. tt),
+    record { earlier = own k e.events; is = adds.grows.adds },
+  )
+
+  -- a last act, which signals
+  pub finishes : (k c : ℕ) (s : S) (g h : History S) → Keeps k g → by.signals k c g.events s → Finishes k c s g h
+      → Keeps k h
+  finishes k c s g h follows signals (exited b (passed_on w chooses is)) =
+      by_last (Continues by) k g h (Pass k c w s) follows is signals
+  finishes k c s g h follows signals (exited b (just_left none is)) =
+      by_last (Continues by) k g h (Leave k s) follows is (nobody_waits c signals none)
+  finishes k c s g h follows signals (signalled w t m chooses adds is) =
+      by_last (Continues by) k m h (Leave k t)
+      (by_two (Continues by) k g m (Signal k c w s) (Back k t) refl refl follows adds signals (λ l. tt)) is
+      (returned (ap newest adds.grows.adds ∙ newest-two (own k g.events) (Signal k c w s) (Back k t)))
+
+  -- k leaves as its procedure ends, or as it was refused
+  pub ends : (k : ℕ) (s : S) (g h : History S) → Keeps k g → by.ends k g.events s → h ≡ with_event g (Leave k s)
+      → Keeps k h
+  ends k s g h follows way is = by_last (Continues by) k g h (Leave k s) follows is (ended way)
+
+  pub leaves_refused : (k : ℕ) (a : S) (f g h : History S) → Keeps k f → AddsLast f (Admit k a) g
+      → h ≡ with_event g (Leave k a) → Keeps k h
+  leaves_refused k a f g h follows adds is =
+      let e = enters k a f g follows adds in by_last (Continues by) k g h (Leave k a) e.0 is (refused e.1)

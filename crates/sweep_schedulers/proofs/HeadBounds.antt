@@ -19,13 +19,14 @@ use Rattle.hoare_law.proofs.Filters.{list_all-at}
 use Rattle.hoare_law.proofs.Sorted.{Rising, Rising-in_order}
 use Rattle.sweep_schedulers.specs.declared.direction.Direction.{Direction}
 use Rattle.sweep_schedulers.specs.Heads.{Disk, HeadRests, sweep, toward}
-use Rattle.sweep_schedulers.specs.HeadHistories.{ContinuesHead, IsHeadHistory, KeepsWaiting, Waits, hand_offs}
+use Rattle.sweep_schedulers.specs.HeadHistories.{IsHeadHistory, KeepsWaiting, Waits, hand_offs}
 use Rattle.sweep_schedulers.specs.Sweeps.{Awaits, IsWaiting, grants_before}
 use Rattle.sweep_schedulers.proofs.Lists.{count_by-cons}
 use Rattle.sweep_schedulers.proofs.Taken.{equals}
 use Rattle.sweep_schedulers.proofs.Granted as granted
-use Rattle.sweep_schedulers.proofs.HeadRuns.{SameDisk, all_same, few_next}
-use Rattle.sweep_schedulers.proofs.HeadSteps.{run, resting}
+use Rattle.sweep_schedulers.proofs.Histories.{continues}
+use Rattle.sweep_schedulers.proofs.HeadRuns.{few_next}
+use Rattle.sweep_schedulers.proofs.HeadSteps.{run, begins_at}
 
 low_before : {X : Type 0} (key : X → ℕ) (us : List X) (x : X) (vs : List X) → Rising key (us ++ x ∷ vs)
     → All (λ y. key y ≤ key x) us
@@ -48,35 +49,22 @@ count_after p (u ∷ us) x vs is =
     )
 
 module _ {T : Type 0} where
-  -- each event of a history continues its place's procedures
-  pub each_continues : (h : History (Disk T)) → IsHeadHistory h → (f later : List (Event (Disk T)))
-      (e : Event (Disk T)) → h.events ≡ f ++ e ∷ later → ContinuesHead f e
-  each_continues h is f later e at =
-      (is.follows _ (is.stands.legal.each f later e at).in_range.0).each f later e at refl
-
   -- the events after h are a run of the model
   pub is_run : (h : History (Disk T)) (later : List (Event (Disk T))) (x : Event (Disk T)) (side : Direction) (p k : ℕ)
       → IsHeadHistory (with_events h later) → KeepsWaiting h later x side p k
       → Awaits (h.sizes.places - 1) side p (latest_data h) (priorities h.events) k (hand_offs later)
   is_run h later x side p k is w =
       let whole : History (Disk T) = with_events h later in
-      let each = each_continues whole is in
-      run whole is.stands each x side p w.priority h.events later (latest_data h) k
-      (all_same whole is.stands.legal each [] h.events later refl
-      (All-nil (SameDisk whole is.stands.legal each)))
-      refl w.untouched (record {
-        rests = w.rests;
-        at = resting refl;
-        waits = record {
-          before = w.before;
-          behind = w.behind;
-          is = w.is;
-          low = subst (λ (n : ℕ). All (λ y. priority_of y ≤ n) w.before) w.priority
-              (low_before priority_of w.before x w.behind
-              (subst (Rising priority_of) w.is (Rising-in_order priority_of (waiting (sweep side) h.events))));
-          earlier = w.earlier;
-        };
-      })
+      run whole is x side p w.priority h.events later (latest_data h) k refl w.untouched
+      (begins_at whole is x side p w.priority h.events later k refl w.rests (record {
+        before = w.before;
+        behind = w.behind;
+        is = w.is;
+        low = subst (λ (n : ℕ). All (λ y. priority_of y ≤ n) w.before) w.priority
+            (low_before priority_of w.before x w.behind
+            (subst (Rising priority_of) w.is (Rising-in_order priority_of (waiting (sweep side) h.events))));
+        earlier = w.earlier;
+      }))
 
   -- more than k wait with its priority
   among : (h : History (Disk T)) (later : List (Event (Disk T))) (x : Event (Disk T)) (side : Direction) (p k : ℕ)
@@ -95,11 +83,9 @@ module _ {T : Type 0} where
         → IsHeadHistory (with_events h later) → KeepsWaiting h later x side p k
         → IsWaiting (h.sizes.places - 1) side p k (latest_data h) (priorities h.events)
     waits later more e split is w =
-        let whole : History (Disk T) = with_events h later in
         record {
           rests = w.rests;
-          few = few_next whole is.stands.legal (each_continues whole is) h.events more e
-              (ap (λ l. h.events ++ l) split);
+          few = few_next (with_events h later) is h.events more e (ap (λ l. h.events ++ l) split);
           among = among h later x side p k w;
         }
 
@@ -162,7 +148,7 @@ from_its_wait {T = T} h later k c p s is free =
     found = latest_data-push h e
 
     a : Waits k c p h.events s
-    a = each_continues (with_events h (e ∷ later)) is h.events later e refl
+    a = continues (with_events h (e ∷ later)) is h.events later e refl
 
     side : Direction
     side = toward a.dest s

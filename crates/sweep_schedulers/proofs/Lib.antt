@@ -8,6 +8,7 @@ pub mod Longest
 pub mod Readers
 pub mod Rounds
 pub mod Behind
+pub mod Histories
 pub mod HeadRuns
 pub mod HeadSteps
 pub mod HeadBounds

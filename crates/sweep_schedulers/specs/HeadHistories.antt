@@ -1,19 +1,18 @@
 -- The histories of a disk head that only the procedures of a head use: each place's own events are traces of `request`
 -- and `release`, the last of them perhaps unfinished. In this file k is a place, and f has the events before its next
 -- one.
-use Rattle.std.specs.Prelude.{ℕ, ◌<◌, ◌≤◌, ◌==◌, List, [], ◌∷◌, ◌++◌, ◌≡◌, ◌≢◌, Bool, true, false, Some, None, IsSome}
-use Rattle.std.specs.Prelude.{length, map, count_by, ⊤}
+use Rattle.std.specs.Prelude.{ℕ, ◌≤◌, ◌==◌, List, [], ◌∷◌, ◌++◌, ◌≡◌, ◌≢◌, Bool, true, false, None, IsSome}
+use Rattle.std.specs.Prelude.{length, map, count_by}
 use Rattle.std.specs.List.{filter}
 use Rattle.hoare_law.specs.declared.event.Event.{Event}
 use Rattle.hoare_law.specs.declared.event.History.{History}
-use Rattle.hoare_law.specs.declared.event.Event.TheVariants.{Admit, Wait, Signal, Pass, Leave, Resume, Back, Notify}
-use Rattle.hoare_law.specs.declared.event.Event.TheVariants.{Broadcast, SignalTo}
-use Rattle.hoare_law.specs.Events.{own, newest, latest_data}
+use Rattle.hoare_law.specs.declared.event.Event.TheVariants.{Signal, Pass}
+use Rattle.hoare_law.specs.Events.{latest_data}
 use Rattle.hoare_law.specs.Waiting.{priority_of, is_untouched, waiting}
 use Rattle.hoare_law.specs.Priorities.{priorities, in_order}
-use Rattle.hoare_law.specs.Lawful.{Rest, Ready, Stands}
+use Rattle.hoare_law.specs.Lawful.{Rest, Ready}
 use Rattle.sweep_schedulers.specs.declared.direction.Direction.{Direction}
-use Rattle.sweep_schedulers.specs.Follows.{Follows}
+use Rattle.sweep_schedulers.specs.Follows.{Procedures, HasEntered, HasResumed, Continues, IsUsed}
 use Rattle.sweep_schedulers.specs.Heads.{Disk, HeadRests, HeadReady, sweep, opposite, turned, put, sent, counted}
 use Rattle.sweep_schedulers.specs.Heads.{toward, priority_at}
 
@@ -36,20 +35,15 @@ sweep_to dest a = sweep (toward dest a)
 abbrev pub priority_to : {T : Type 0} → ℕ → Disk T → ℕ
 priority_to dest a = priority_at a.cylmax (toward dest a) dest
 
--- k entered, found a, and did nothing since
-abbrev pub HasEntered : {T : Type 0} → ℕ → List (Event (Disk T)) → Disk T → Type 0
-HasEntered k f a = newest (own k f) ≡ Some (Admit k a)
-
 -- k waited as a request for dest that found a, resumed, found the second disk, and did nothing since
-pub record HasResumed {T : Type 0} (k dest : ℕ) (f : List (Event (Disk T))) (a found : Disk T) : Type 0 where
+pub record HasReached {T : Type 0} (k dest : ℕ) (f : List (Event (Disk T))) (a found : Disk T) : Type 0 where
   pub on : dest ≤ a.cylmax
-  pub earlier : List (Event (Disk T))
-  pub is : own k f ≡ earlier ++ Wait k (sweep_to dest a) (priority_to dest a) a ∷ Resume k (sweep_to dest a) found ∷ []
+  pub resumed : HasResumed k (sweep_to dest a) (priority_to dest a) f a found
 
 -- k has the disk d with its drive in, to hand it off: it was given back, or k resumed and found another last cylinder
 pub data IsToHandOn {T : Type 0} (k : ℕ) (f : List (Event (Disk T))) (d : Disk T) : Type 0 where
   released : (a : Disk T) (drive : T) → HasEntered k f a → a.drive ≡ None → d ≡ put a drive → IsToHandOn k f d
-  other_disk : (dest : ℕ) (a : Disk T) → HasResumed k dest f a d → d.cylmax ≢ a.cylmax → IsToHandOn k f d
+  other_disk : (dest : ℕ) (a : Disk T) → HasReached k dest f a d → d.cylmax ≢ a.cylmax → IsToHandOn k f d
 
 -- the disk d is handed off as s by a signal on c: on the present sweep if a request waits there; else the head turns,
 -- and the signal is on the other sweep
@@ -73,33 +67,22 @@ pub record Waits {T : Type 0} (k c p : ℕ) (f : List (Event (Disk T))) (s : Dis
   pub on_sweep : c ≡ sweep_to dest s
   pub priority : p ≡ priority_to dest s
 
--- k leaves with s: it was refused and changes nothing; or it has the drive, at once or after a wait; or no request
--- waits where it would signal; or it signalled and returned
-pub data Leaves {T : Type 0} (k : ℕ) (f : List (Event (Disk T))) (s : Disk T) : Type 0 where
-  refused : HasEntered k f s → Leaves k f s
+-- k leaves with s: it has the drive, at once or after a wait
+pub data Takes {T : Type 0} (k : ℕ) (f : List (Event (Disk T))) (s : Disk T) : Type 0 where
   at_once : (a : Disk T) (dest : ℕ) → HasEntered k f a → IsSome a.drive → dest ≤ a.cylmax
-      → s ≡ counted_at f (sent a dest) → Leaves k f s
-  granted : (a found : Disk T) (dest : ℕ) → HasResumed k dest f a found → found.cylmax ≡ a.cylmax
-      → IsSome found.drive → s ≡ counted_at f (sent found dest) → Leaves k f s
-  nobody_waits : (c : ℕ) → Signals k c f s → waiting c f ≡ [] → Leaves k f s
-  returned : newest (own k f) ≡ Some (Back k s) → Leaves k f s
+      → s ≡ counted_at f (sent a dest) → Takes k f s
+  granted : (a found : Disk T) (dest : ℕ) → HasReached k dest f a found → found.cylmax ≡ a.cylmax
+      → IsSome found.drive → s ≡ counted_at f (sent found dest) → Takes k f s
 
--- the event is one that a procedure adds next, after those that its place added before. What is found at an entry,
--- at a resumption and at a return is determined by the machine
+abbrev pub head_procedures : {T : Type 0} → Procedures (Disk T)
+head_procedures = record { waits = Waits; signals = Signals; ends = Takes }
+
 abbrev pub ContinuesHead : {T : Type 0} → List (Event (Disk T)) → Event (Disk T) → Type 0
-ContinuesHead f (Wait k c p s) = Waits k c p f s
-ContinuesHead f (Leave k s) = Leaves k f s
-ContinuesHead f (Signal k c w s) = Signals k c f s
-ContinuesHead f (Pass k c w s) = Signals k c f s
-ContinuesHead f (SignalTo k c w s) = ⊥
-ContinuesHead f (Notify k c w s) = ⊥
-ContinuesHead f (Broadcast k c s) = ⊥
-ContinuesHead f _ = ⊤
+ContinuesHead f e = Continues head_procedures f e
 
 -- h is a legal and lawful history of a head that only the procedures use
-pub record IsHeadHistory {T : Type 0} (h : History (Disk T)) : Type 0 where
-  pub stands : Stands head_rest head_ready h
-  pub follows : (k : ℕ) → k < h.sizes.places → Follows ContinuesHead k h
+abbrev pub IsHeadHistory : {T : Type 0} → History (Disk T) → Type 0
+IsHeadHistory h = IsUsed head_procedures head_rest head_ready h
 
 -- the event hands the drive off to a waiting request
 abbrev pub hands_drive : {T : Type 0} → Event (Disk T) → Bool

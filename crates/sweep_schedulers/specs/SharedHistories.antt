@@ -1,19 +1,17 @@
 -- The histories of readers and writers that only the procedures use: each place's own events are traces of the four
 -- procedures, the last of them perhaps unfinished. In this file k is a place, f has the events before its next one.
 use Rattle.std.specs.Prelude.{ℕ, ◌+◌, ◌-◌, ◌<◌, ◌&&◌, not, nat_lt, if◌then◌else◌, List, [], ◌∷◌, ◌++◌, ◌≡◌, ◌≢◌, ◌⊎◌}
-use Rattle.std.specs.Prelude.{true, Some, ⊤, Result, length, map}
+use Rattle.std.specs.Prelude.{true, Some, Result, length, map}
 use Rattle.hoare_law.specs.declared.event.Event.{Event}
 use Rattle.hoare_law.specs.declared.event.History.{History}
-use Rattle.hoare_law.specs.declared.event.Event.TheVariants.{Admit, Wait, Signal, Pass, Leave, Resume, Back, Notify}
-use Rattle.hoare_law.specs.declared.event.Event.TheVariants.{Broadcast, SignalTo}
-use Rattle.hoare_law.specs.Events.{place_of, data_of, own, newest, latest_data}
+use Rattle.hoare_law.specs.Events.{place_of, data_of, newest, latest_data}
 use Rattle.hoare_law.specs.Waiting.{waiting, priority_of}
 use Rattle.hoare_law.specs.Priorities.{in_order}
-use Rattle.hoare_law.specs.Lawful.{Rest, Ready, Stands}
+use Rattle.hoare_law.specs.Lawful.{Rest, Ready}
 use Rattle.hoare_law.specs.Overtaking.{is_release}
 use Rattle.sweep_schedulers.specs.declared.readers_writers.ReadPass.{ReadPass}
 use Rattle.sweep_schedulers.specs.declared.readers_writers.TooManyReaders.{TooManyReaders}
-use Rattle.sweep_schedulers.specs.Follows.{Follows}
+use Rattle.sweep_schedulers.specs.Follows.{Procedures, HasEntered, HasResumed, Continues, IsUsed}
 use Rattle.sweep_schedulers.specs.ReadersWriters.{Shared, ReadersRest, ReadersReady, IsInUse, with_readers, with_writer}
 use Rattle.sweep_schedulers.specs.ReadersWriters.{written}
 use Rattle.sweep_schedulers.specs.ReadersWritersTraces.{Admits}
@@ -26,16 +24,6 @@ shared_rest s q = ReadersRest s (q 0) (q 1)
 abbrev pub shared_ready : {T : Type 0} → Ready (Shared T)
 shared_ready c p s q = ReadersReady c s
 
--- k entered, found a, and did nothing since
-abbrev pub HasEntered : {T : Type 0} → ℕ → List (Event (Shared T)) → Shared T → Type 0
-HasEntered k f a = newest (own k f) ≡ Some (Admit k a)
-
--- k waited on c, resumed, found this, and did nothing since
-pub record HasResumed {T : Type 0} (k c : ℕ) (f : List (Event (Shared T))) (found : Shared T) : Type 0 where
-  pub earlier : List (Event (Shared T))
-  pub before : Shared T
-  pub is : own k f ≡ earlier ++ Wait k c 0 before ∷ Resume k c found ∷ []
-
 -- a reader that finds s has to wait
 abbrev pub IsHeldUp : {T : Type 0} → List (Event (Shared T)) → Shared T → Type 0
 IsHeldUp f s = (s.busy ≡ true) ⊎ (waiting 1 f ≢ [])
@@ -43,7 +31,7 @@ IsHeldUp f s = (s.busy ≡ true) ⊎ (waiting 1 f ≢ [])
 -- k came to read, at once or after a wait, and found this
 pub data Reads {T : Type 0} (k : ℕ) (f : List (Event (Shared T))) (found : Shared T) : Type 0 where
   reads_at_once : HasEntered k f found → (IsHeldUp f found → ⊥) → Reads k f found
-  reads_resumed : HasResumed k 0 f found → Reads k f found
+  reads_resumed : (a : Shared T) → HasResumed k 0 0 f a found → Reads k f found
 
 -- k signals on c with s, or leaves with it if no process waits there: it came to read; or it was the last reader; or
 -- its write ended
@@ -61,35 +49,25 @@ pub data Waits {T : Type 0} (k c p : ℕ) (f : List (Event (Shared T))) (s : Sha
   to_read : HasEntered k f s → IsHeldUp f s → c ≡ 0 → p ≡ 0 → Waits k c p f s
   to_write : HasEntered k f s → IsInUse s → c ≡ 1 → p ≡ 0 → Waits k c p f s
 
--- k leaves with s: it was refused and changes nothing; or other readers stay in; or it began to write, at once or after
--- a wait; or no process waits where it would signal; or it signalled and returned
-pub data Leaves {T : Type 0} (k : ℕ) (f : List (Event (Shared T))) (s : Shared T) : Type 0 where
-  refused : HasEntered k f s → Leaves k f s
-  others_read : (a : Shared T) → HasEntered k f a → 1 < a.readers → s ≡ with_readers a (a.readers - 1) → Leaves k f s
-  writes_at_once : (a : Shared T) → HasEntered k f a → (IsInUse a → ⊥) → s ≡ with_writer a → Leaves k f s
-  writes_resumed : (found : Shared T) → HasResumed k 1 f found → s ≡ with_writer found → Leaves k f s
-  nobody_waits : (c : ℕ) → Ends k c f s → waiting c f ≡ [] → Leaves k f s
-  returned : newest (own k f) ≡ Some (Back k s) → Leaves k f s
+-- k leaves with s: other readers stay in; or it began to write, at once or after a wait
+pub data Goes {T : Type 0} (k : ℕ) (f : List (Event (Shared T))) (s : Shared T) : Type 0 where
+  others_read : (a : Shared T) → HasEntered k f a → 1 < a.readers → s ≡ with_readers a (a.readers - 1) → Goes k f s
+  writes_at_once : (a : Shared T) → HasEntered k f a → (IsInUse a → ⊥) → s ≡ with_writer a → Goes k f s
+  writes_resumed : (a found : Shared T) → HasResumed k 1 0 f a found → s ≡ with_writer found → Goes k f s
 
--- the event is one that a procedure adds next, after those that its place added before
+abbrev pub sharing_procedures : {T : Type 0} → Procedures (Shared T)
+sharing_procedures = record { waits = Waits; signals = Ends; ends = Goes }
+
 abbrev pub ContinuesSharing : {T : Type 0} → List (Event (Shared T)) → Event (Shared T) → Type 0
-ContinuesSharing f (Wait k c p s) = Waits k c p f s
-ContinuesSharing f (Leave k s) = Leaves k f s
-ContinuesSharing f (Signal k c w s) = Ends k c f s
-ContinuesSharing f (Pass k c w s) = Ends k c f s
-ContinuesSharing f (SignalTo k c w s) = ⊥
-ContinuesSharing f (Notify k c w s) = ⊥
-ContinuesSharing f (Broadcast k c s) = ⊥
-ContinuesSharing f _ = ⊤
+ContinuesSharing f e = Continues sharing_procedures f e
+
+-- h is a legal and lawful history of readers and writers that only the procedures use
+abbrev pub IsSharedHistory : {T : Type 0} → History (Shared T) → Type 0
+IsSharedHistory h = IsUsed sharing_procedures shared_rest shared_ready h
 
 -- the last event, if there is one, released the monitor and resumed no process
 abbrev pub IsReleased : {T : Type 0} → List (Event (Shared T)) → Type 0
 IsReleased {T = T} f = (e : Event (Shared T)) → newest f ≡ Some e → is_release e ≡ true
-
--- h is a legal and lawful history of readers and writers that only the procedures use
-pub record IsSharedHistory {T : Type 0} (h : History (Shared T)) : Type 0 where
-  pub stands : Stands shared_rest shared_ready h
-  pub follows : (k : ℕ) → k < h.sizes.places → Follows ContinuesSharing k h
 
 -- what the bounds count: the reads that began, the places that began to write, in turn, and, the latest first, how many
 -- readers waited when a write ended, if any did

@@ -8,10 +8,12 @@ use crate::tests::row::Row;
 use any_door::{AnyDoor, DoorKind};
 use baton_door::door::Door;
 use baton_door::place::DoorOut;
+use baton_door::step_door::StepDoor;
 use door_frame::calls::{begin_signal_to, begin_wait};
 use door_frame::patience::Patience;
 use door_frame::place::Outside;
 use door_frame::status::{Holder, Status};
+use hoare_law::event::Sizes;
 use hoare_law::monitor::Monitor;
 use hoare_law::unconstrained::Unconstrained;
 use std::alloc::Global;
@@ -184,14 +186,27 @@ fn polls_in_vain_are_left_out(host: HostRuntime) {
     expect_same(&host, skips(&patience), 1);
 }
 
+/// Lets the two places of a door that was just made meet, and expects 5 of the door that is closed with them.
+macro_rules! expect_meeting {
+    ($rt:expr, $made:expr) => {{
+        let Ok((door, mut outs)) = $made else {
+            panic!($rt; "no memory")
+        };
+        let (b, a) = (outs.pop().unwrap(), outs.pop().unwrap());
+        let (a, b) = door.meet(a, b);
+        outs.push_reserved(a);
+        outs.push_reserved(b);
+        expect_same(&$rt, door.close(outs).value, 5);
+    }};
+}
+
 #[test]
 fn two_places_meet(rt: HostRuntime) {
-    let Ok((door, mut outs)) = Door::make(rt.alloc(), Tally { value: 5 }, 2) else {
-        panic!(rt; "no memory")
+    let sizes = Sizes {
+        places: 2,
+        conditions: 1,
+        mesa: 0,
     };
-    let (b, a) = (outs.pop().unwrap(), outs.pop().unwrap());
-    let (a, b) = door.meet(a, b);
-    outs.push_reserved(a);
-    outs.push_reserved(b);
-    expect_same(&rt, door.close(outs).value, 5);
+    expect_meeting!(rt, Door::make(rt.alloc(), Tally { value: 5 }, 2));
+    expect_meeting!(rt, StepDoor::make(rt.alloc(), Tally { value: 5 }, sizes));
 }

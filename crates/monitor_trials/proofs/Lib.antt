@@ -1,1 +1,2 @@
 mod Many
+mod Numbered

@@ -1,4 +1,2 @@
-pub mod Acted
 mod Answers
-pub mod Numbered
 mod Stages

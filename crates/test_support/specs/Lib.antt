@@ -1,4 +1,3 @@
 pub mod Answers
 pub mod Stage
 pub mod Facts
-pub mod Numbered

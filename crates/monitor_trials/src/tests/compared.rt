@@ -2,7 +2,6 @@
 
 ghost use Rattle.std.specs.Prelude.{◌≡◌, Ok};
 
-use any_door::DoorKind;
 use std::alloc::Global;
 use std::fmt::{Debug, Display};
 use std::process::Abort;
@@ -38,9 +37,4 @@ pub fn reads_as<T: Display, R: Abort>(rt: &R, alloc: Global, value: &T, wanted: 
         panic!(rt; "no memory")
     };
     expect_same(rt, shown.as_str(), wanted);
-}
-
-/// Fails the test if `answers`, which the places of a row on a door of this type returned, isn't `wanted`.
-pub fn answered<R: Abort>(rt: &R, door: DoorKind, answers: &[u64], wanted: &[u64]) {
-    expect_same(rt, (door, answers), (door, wanted));
 }

@@ -1,7 +1,6 @@
 //! Tests of the doors: on one thread, by ticket, and rows on threads on each door.
 
 mod alone;
-mod named;
 mod stress;
 mod tally;
 mod tickets;

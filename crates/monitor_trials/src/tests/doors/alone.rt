@@ -1,13 +1,10 @@
-//! Each door on one thread: what `make` refuses, a place's calls at the least and the most places, what the words of a
-//! door say, and which polls a place leaves out.
+//! Each door on one thread: what `make` refuses, a place's calls beside 63 others, what the words of a door say, and
+//! which polls a place leaves out.
 ghost use Rattle.std.specs.Prelude.{◌≡◌};
 
 use crate::tests::compared::{expect_same, reads_as, refused};
-use crate::tests::doors::tally::tally_on_both;
-use crate::tests::row::Row;
 use any_door::{AnyDoor, DoorKind};
 use baton_door::door::Door;
-use baton_door::place::DoorOut;
 use baton_door::step_door::StepDoor;
 use door_frame::calls::{begin_signal_to, begin_wait};
 use door_frame::patience::Patience;
@@ -18,7 +15,6 @@ use hoare_law::monitor::Monitor;
 use hoare_law::unconstrained::Unconstrained;
 use std::alloc::Global;
 use std::process::Abort;
-use std::rt::Clock;
 use std::sync::Wait;
 use test_support::tally::{Tally, calls_all, tries_once};
 use ticket_door::door::TicketDoor;
@@ -49,84 +45,54 @@ fn make_refuses_bad_numbers(rt: HostRuntime) {
 /// Number of attempts of one place. An attempt that keeps the monitor for long fails the test by the limit of a minute.
 const ATTEMPTS: u64 = 1000;
 
-// Makes the calls of `calls_all`, and then attempts to enter, and leaves each time. Returns 1 if each call returned what
-// it should, and each attempt entered.
-fn calls_and_tries<R: Wait, M: Monitor<Tally>>(rt: &R, m: &M, out: M::Out) -> (M::Out, u64)
+// Makes the calls of `calls_all`, and then attempts to enter, and leaves each time. Fails the test unless each call
+// returned what it should, and each attempt entered.
+fn calls_and_tries<R: Wait + Abort, M: Monitor<Tally>>(rt: &R, m: &M, out: M::Out) -> M::Out
     requires { M.is_of m.now out }
-    ensures of { M.is_of m.now result.0 }
-    ensures place { M.place result.0 ≡ M.place out }
+    ensures of { M.is_of m.now result }
+    ensures place { M.place result ≡ M.place out }
 {
     let (mut out, answer) = calls_all(rt, m, out);
-    let mut entered = 0u64;
+    expect_same(rt, answer, 1);
     for _ in 0..ATTEMPTS {
         let (back, has_entered) = tries_once(rt, m, out);
+        expect_same(rt, has_entered, true);
         out = back;
-        entered = entered.wrapping_add(u64::from(has_entered));
     }
-    (out, u64::from(answer == 1 && entered == ATTEMPTS))
+    out
 }
 
-/// The last of this number of places makes the calls of `calls_and_tries`. The others make none, and return 1.
-#[derive(Drop)]
-struct LastCallsAll(usize);
-
-impl Row<Tally> for LastCallsAll {
-    fn act<R: Wait + Abort + Clock, M: Monitor<Tally, Out = DoorOut<Tally>>>(
-        &self,
-        rt: &R,
-        m: &M,
-        out: DoorOut<Tally>,
-        place: usize,
-    ) -> (DoorOut<Tally>, u64)
-        requires { M.is_of m.now out }
-        ensures of { M.is_of m.now result.0 }
-        ensures place { M.place result.0 ≡ M.place out }
-    {
-        if place.saturating_add(1) < self.0 {
-            return (out, 1);
-        }
-        calls_and_tries(rt, m, out)
-    }
-}
-
-#[test]
-fn one_place_calls_all(host: HostRuntime) {
-    let (rt, alloc) = (&host, host.alloc());
-    tally_on_both(rt, alloc, &LastCallsAll(1), 42, &[1]);
-    tally_on_both(rt, alloc, &LastCallsAll(64), 42, &[1; 64]);
-}
-
-// `last`, place 63, makes the calls of `calls_all`, enters and begins to wait, and `other` begins to signal to it.
-// Returns what the door's words say before `last` enters, while it is inside, and before it resumes.
-fn statuses<R: Wait + Abort>(
+// `last` makes the calls of `calls_and_tries`, enters and begins to wait, and `other` begins to signal to it. Fails the
+// test unless the door's words say so before `last` enters, while it is inside, and before it resumes.
+fn has_statuses<R: Wait + Abort>(
     rt: &R,
     door: &AnyDoor<Tally>,
     last: Outside<Tally>,
     other: Outside<Tally>,
-) -> [Status; 3]
+)
     requires last { ⟦<AnyDoor<Tally> as Monitor<Tally>>⟧.is_of door.now last }
     requires other { ⟦<AnyDoor<Tally> as Monitor<Tally>>⟧.is_of door.now other }
 {
-    let (last, answer) = calls_all(rt, door, last);
-    expect_same(rt, answer, 1);
-    let before = door.status();
+    let number = last.number();
+    let last = calls_and_tries(rt, door, last);
+    expect_same(rt, door.status().holder, Holder::Nobody);
     let inside = door.enter(rt, last);
-    let between = door.status();
+    expect_same(rt, door.status().holder, Holder::Somebody);
     let (_away, _next) = begin_wait(&**door, inside, 0, 0);
     let inside = door.enter(rt, other);
-    let _waits = inside.has_waiter(0, 63);
-    match begin_signal_to(&**door, inside, 0, 63) {
+    let _waits = inside.has_waiter(0, number);
+    match begin_signal_to(&**door, inside, 0, number) {
         Ok(_resumes) => {}
         Err(inside) => {
             let _out = door.leave(rt, inside);
         }
     }
-    [before, between, door.status()]
+    expect_same(rt, door.status().holder, Holder::Owed(number));
 }
 
-// Returns the statuses of a door of this kind, whose last place of 64 makes the calls.
-fn statuses_of<R: Wait + Abort>(rt: &R, alloc: Global, kind: DoorKind) -> [Status; 3] {
-    let Ok((door, mut outs)) = kind.make(alloc, Tally { value: 0 }, 64) else {
+// Tests the statuses of a door of this kind, whose last place makes the calls.
+fn statuses_of<R: Wait + Abort>(rt: &R, alloc: Global, kind: DoorKind, places: usize) {
+    let Ok((door, mut outs)) = kind.make(alloc, Tally { value: 0 }, places) else {
         panic!(rt; "no memory")
     };
     let Some(last) = outs.pop() else {
@@ -135,18 +101,16 @@ fn statuses_of<R: Wait + Abort>(rt: &R, alloc: Global, kind: DoorKind) -> [Statu
     let Some(other) = outs.pop() else {
         panic!(rt; "one place")
     };
-    statuses(rt, &door, last, other)
+    has_statuses(rt, &door, last, other);
 }
 
 #[test]
 fn a_status_of_each_door(host: HostRuntime) {
     let (rt, alloc) = (&host, host.alloc());
     expect_same(rt, DoorKind::BOTH, [DoorKind::Baton, DoorKind::Ticket]);
-    let holders = [Holder::Nobody, Holder::Somebody, Holder::Owed(63)];
-    for kind in DoorKind::BOTH {
-        let seen = statuses_of(rt, alloc, kind);
-        let said = [seen[0].holder, seen[1].holder, seen[2].holder];
-        expect_same(rt, (kind, said), (kind, holders));
+    for places in [2, 64] {
+        statuses_of(rt, alloc, DoorKind::Baton, places);
+        statuses_of(rt, alloc, DoorKind::Ticket, places);
     }
     for (holder, wanted) in &[
         (Holder::Nobody, "nobody inside, 2 waiting to enter"),

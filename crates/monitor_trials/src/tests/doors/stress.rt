@@ -6,13 +6,13 @@
 //! the visits are counted twice.
 ghost use Rattle.std.specs.Prelude.{◌≡◌, ◌<◌};
 
+use crate::tests::awaited::count_waiting;
 use crate::tests::compared::expect_same;
-use crate::tests::row::{DoorKind, Row, run};
-use baton_door::place::DoorOut;
+use crate::tests::row::{DoorKind, run};
+use door_frame::place::Outside;
 use hoare_law::data::MonitorData;
 use hoare_law::monitor::Monitor;
 use hoare_law::waits::Waits;
-use std::alloc::Global;
 use std::process::Abort;
 use std::rt::Clock;
 use std::sync::Wait;
@@ -20,8 +20,6 @@ use std::sync::atomic::{AtomicU64, Ordering};
 use std::thread::Threads;
 use std::time::Duration;
 use std::{hint, thread};
-use test_support::drawn::draw;
-use test_support::running::count_waiting;
 
 /// Number of workers. One more place sweeps.
 const WORKERS: usize = 8;
@@ -91,12 +89,14 @@ impl MonitorData for Stamps {
     ghost ready_inv = { λ c p s q h. tt };
 }
 
-/// A day: its visits are drawn from its number. `last` is the stamp that the last process left.
+/// A day: its visits are drawn from its number. `last` is the stamp that the last process left, and `visits` is how
+/// often the processes had the data, as they count it.
 #[derive(Drop)]
 struct Day {
     number: u64,
     rounds: u64,
     last: AtomicU64,
+    visits: AtomicU64,
 }
 
 /// What a place takes along: the seed of its numbers, the last drawn number, and how often it had the data.
@@ -105,6 +105,12 @@ struct Mine {
     seed: u64,
     lot: u64,
     visits: u64,
+}
+
+// Returns the pseudo-random number that follows `seed`, and is the seed of the next.
+fn draw(seed: u64) -> u64 {
+    seed.wrapping_mul(6364136223846793005)
+        .wrapping_add(1442695040888963407)
 }
 
 // Lets the time of `hints` spin hints pass.
@@ -318,46 +324,47 @@ fn sweep<R: Wait + Clock, M: Monitor<Stamps>>(
     out
 }
 
-impl Row<Stamps> for Day {
-    fn act<R: Wait + Abort + Clock, M: Monitor<Stamps, Out = DoorOut<Stamps>>>(
-        &self,
-        rt: &R,
-        m: &M,
-        out: DoorOut<Stamps>,
-        place: usize,
-    ) -> (DoorOut<Stamps>, u64)
-        requires { M.is_of m.now out }
-        ensures of { M.is_of m.now result.0 }
-        ensures place { M.place result.0 ≡ M.place out }
-    {
-        let mut mine = Mine {
-            seed: draw(draw(self.number).wrapping_add(place as u64)),
-            lot: 0,
-            visits: 0,
-        };
-        let out = if place < WORKERS {
-            work(rt, m, out, self, &mut mine)
-        } else {
-            sweep(rt, m, out, self, &mut mine)
-        };
-        (out, mine.visits)
-    }
+// Makes the visits of a worker, or of the last place, which sweeps, and counts how often the place had the data.
+fn works_or_sweeps<R: Wait + Clock, M: Monitor<Stamps, Out = Outside<Stamps>>>(
+    rt: &R,
+    m: &M,
+    out: M::Out,
+    day: &Day,
+) -> M::Out
+    requires { M.is_of m.now out }
+    ensures of { M.is_of m.now result }
+    ensures place { M.place result ≡ M.place out }
+{
+    let place = out.number();
+    let mut mine = Mine {
+        seed: draw(draw(day.number).wrapping_add(place as u64)),
+        lot: 0,
+        visits: 0,
+    };
+    let out = if place < WORKERS {
+        work(rt, m, out, day, &mut mine)
+    } else {
+        sweep(rt, m, out, day, &mut mine)
+    };
+    day.visits.fetch_add(mine.visits, Ordering::SeqCst);
+    out
 }
 
 // Runs a day on a door of this kind. Fails the test if a process didn't find what the last one left, a visit was lost,
 // a worker didn't finish, or too few waiters were resumed or notified to test anything.
-fn lives<R: Threads + Wait + Abort + Clock + Sync>(
+fn lives<R: Threads + Wait + Abort + Clock + AllocGlobal + Sync>(
     rt: &R,
-    alloc: Global,
     kind: DoorKind,
     rounds: u64,
     number: u64,
 ) {
-    let day = Day {
+    let whole_day = Day {
         number,
         rounds,
         last: AtomicU64::new(0),
+        visits: AtomicU64::new(0),
     };
+    let day = &whole_day;
     let data = Stamps {
         stamp: 0,
         torn: 0,
@@ -366,8 +373,8 @@ fn lives<R: Threads + Wait + Abort + Clock + Sync>(
         notified: 0,
         finished: 0,
     };
-    let (left, visits) = run(rt, alloc, kind, data, WORKERS + 1, &day);
-    let visits = visits.iter().fold(0u64, |sum, n| sum.wrapping_add(*n));
+    let left = run!(rt, kind, data, WORKERS + 1, works_or_sweeps, day);
+    let visits = day.visits.load(Ordering::SeqCst);
     expect_same(rt, (kind, left.torn, left.finished), (kind, 0, WORKERS));
     expect_same(rt, (kind, left.visits), (kind, visits));
     let had_waiters = left.resumed.min(left.notified) >= rounds / 4;
@@ -377,7 +384,7 @@ fn lives<R: Threads + Wait + Abort + Clock + Sync>(
 #[test]
 fn nine_find_what_the_last_one_left(host: HostRuntime) {
     for number in 0..DAYS {
-        lives(&host, host.alloc(), DoorKind::Baton, ROUNDS, number);
-        lives(&host, host.alloc(), DoorKind::Ticket, TICKET_ROUNDS, number);
+        lives(&host, DoorKind::Baton, ROUNDS, number);
+        lives(&host, DoorKind::Ticket, TICKET_ROUNDS, number);
     }
 }

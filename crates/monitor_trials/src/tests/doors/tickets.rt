@@ -5,9 +5,9 @@ ghost use Rattle.door_frame.specs.Places.{HasPlace};
 ghost use Rattle.hoare_law.specs.Sizes.{kinds_of};
 ghost use Rattle.ticket_door.specs.Asked.{IsAsked, as_out};
 
-use crate::tests::awaited::{act_all, watch};
+use crate::tests::awaited::watch;
 use crate::tests::compared::{expect_same, good};
-use crate::tests::row::ticket;
+use crate::tests::row::{act_all, closed, ticket};
 use door_frame::status::{Holder, Status};
 use hoare_law::data::MonitorData;
 use hoare_law::monitor::Monitor;
@@ -15,7 +15,6 @@ use std::alloc::Global;
 use std::collections::VecDeque;
 use std::process::Abort;
 use std::sync::Wait;
-use test_support::on_ticket_door::closed;
 use test_support::tally::{Tally, add_one, write_digit};
 use ticket_door::door::TicketDoor;
 use ticket_door::laws::make_at;
@@ -141,37 +140,34 @@ fn two_places_meet(rt: HostRuntime) {
 }
 
 // Place 0 waits, and writes 2. Place 1 writes 1 when place 0 waits, and resumes it by `hand_up`, which is non-blocking.
-// It returns 1 if it resumed a waiter.
 fn waits_or_hands_up<R: Wait + Abort>(
     rt: &R,
     door: &TicketDoor<Tally>,
     out: TicketOut<Tally>,
-    place: usize,
-) -> (TicketOut<Tally>, u64)
+) -> TicketOut<Tally>
     requires { ⟦<TicketDoor<Tally> as Monitor<Tally>>⟧.is_of door.now out }
-    ensures of { ⟦<TicketDoor<Tally> as Monitor<Tally>>⟧.is_of door.now result.0 }
-    ensures place { result.0.place ≡ out.place }
+    ensures of { ⟦<TicketDoor<Tally> as Monitor<Tally>>⟧.is_of door.now result }
+    ensures place { result.place ≡ out.place }
 {
-    if place == 0 {
+    if out.number() == 0 {
         let inside = door.wait(rt, door.enter(rt, out), 0, 0);
-        return (door.give_up(write_digit(door, inside, 2)), 0);
+        return door.give_up(write_digit(door, inside, 2));
     }
-    let inside = write_digit(door, watch(rt, door, out, 0, 1), 1);
+    let inside = write_digit(door, watch(rt, door, out, 1), 1);
     let (out, resumed) = door.hand_up(inside, 0);
-    (out, u64::from(resumed))
+    expect_same(rt, resumed, true);
+    out
 }
 
 #[test]
 fn hand_up_resumes_a_waiter(host: HostRuntime) {
     let (rt, alloc) = (&host, host.alloc());
     let (door, outs) = ticket(rt, alloc, u64::MAX, Tally { value: 0 }, 2);
-    let (outs, told) = act_all(
+    let outs = act_all(
         rt,
-        alloc,
         &door,
         outs,
-        &|place| { waits_or_hands_up(rt, &door, place.1, place.0) },
+        &|out| { waits_or_hands_up(rt, &door, out) },
     );
-    expect_same(rt, told.as_slice(), &[0, 1]);
     expect_same(rt, closed(door, outs).value, 12);
 }

@@ -26,7 +26,7 @@ use std::test::Fail;
 use sweep_schedulers::head::{Head, OffDisk};
 use sweep_schedulers::readers_writers::{MOST_READERS, ReadersWriters};
 use test_support::fake::{Fake, FakeOut};
-use test_support::tally::{Tally, tries_once};
+use test_support::tally::{Tally, calls_all};
 use timed_schedulers::pool::{NoStream, Pool};
 
 /// Creates a monitor for tests with the data `state` and these answers. Fails the test if out of memory.
@@ -85,11 +85,11 @@ fn an_acquire_takes_the_first_answer_that_is_ready(host: HostRuntime) {
 }
 
 #[test]
-fn an_attempt_enters(host: HostRuntime) {
+fn a_monitor_without_answers_can_be_called(host: HostRuntime) {
     let (rt, alloc) = (&host, host.alloc());
     let (fake, out) = with_answers(rt, alloc, Tally { value: 0 }, []);
-    let (_out, came) = tries_once(rt, &fake, out);
-    expect_same(rt, came, true);
+    let (_out, answer) = calls_all(rt, &fake, out);
+    expect_same(rt, answer, 1);
 }
 
 // An item isn't bound to the monitor that it came from: the second goes into the first monitor, where the first is then

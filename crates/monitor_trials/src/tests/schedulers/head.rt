@@ -3,14 +3,13 @@ ghost use Rattle.std.specs.Prelude.{◌≡◌};
 ghost use Rattle.sweep_schedulers.specs.Follows.{Follows};
 ghost use Rattle.sweep_schedulers.specs.HeadHistories.{ContinuesHead};
 
+use crate::tests::awaited::Turns;
 use crate::tests::compared::expect_same;
-use crate::tests::row::{DoorKind, Row, run};
 use crate::tests::schedulers::steps::Step::{Awaits, Calls, Gives, LinesUp, Watches};
-use crate::tests::schedulers::steps::{Call, Step, Steps, Turns, takes_steps};
-use baton_door::place::DoorOut;
+use crate::tests::schedulers::steps::{Call, Step, take_steps};
+use door_frame::place::Outside;
 use hoare_law::monitor::Monitor;
 use std::process::Abort;
-use std::rt::Clock;
 use std::sync::Wait;
 use sweep_schedulers::head::{Head, OffDisk};
 use sweep_schedulers::laws::head_calls_follow;
@@ -85,13 +84,13 @@ pub fn calls_head<R: Wait + Abort, M: Monitor<Head<u64>>>(
 }
 
 impl Call<Head<u64>> for HeadCall {
-    fn make<R: Wait + Abort + Clock, M: Monitor<Head<u64>, Out = DoorOut<Head<u64>>>>(
+    fn make<R: Wait + Abort + AllocGlobal, M: Monitor<Head<u64>, Out = Outside<Head<u64>>>>(
         self,
         rt: &R,
         m: &M,
-        out: DoorOut<Head<u64>>,
+        out: Outside<Head<u64>>,
         _turns: &Turns,
-    ) -> DoorOut<Head<u64>>
+    ) -> Outside<Head<u64>>
         requires { M.is_of m.now out }
         ensures of { M.is_of m.now result }
         ensures place { M.place result ≡ M.place out }
@@ -100,28 +99,12 @@ impl Call<Head<u64>> for HeadCall {
     }
 }
 
-impl Row<Head<u64>> for Steps<'_, '_, HeadCall> {
-    fn act<R: Wait + Abort + Clock, M: Monitor<Head<u64>, Out = DoorOut<Head<u64>>>>(
-        &self,
-        rt: &R,
-        m: &M,
-        out: DoorOut<Head<u64>>,
-        place: usize,
-    ) -> (DoorOut<Head<u64>>, u64)
-        requires { M.is_of m.now out }
-        ensures of { M.is_of m.now result.0 }
-        ensures place { M.place result.0 ≡ M.place out }
-    {
-        takes_steps(rt, m, out, place, self)
-    }
-}
-
 // While the drive is at 50, requests for 70, 60, 20, 50 and 40 wait, in this order. They are granted in the order 60,
 // 70, 50, 40, 20. The request for 0, the last cylinder of the way down, comes after them, and ends when no other place
 // acts.
 #[test]
 fn a_head_sweeps_on_each_door(host: HostRuntime) {
-    let (rt, alloc) = (&host, host.alloc());
+    let rt = &host;
     let places: &[&[Step<HeadCall>]] = &[
         &[
             Calls(Requests(50, Ok(0))),
@@ -138,17 +121,14 @@ fn a_head_sweeps_on_each_door(host: HostRuntime) {
         &[Awaits(4), Calls(Requests(50, Ok(3))), Calls(Releases(4))],
         &[Awaits(5), Calls(Requests(40, Ok(4))), Calls(Releases(5))],
     ];
-    for door in DoorKind::BOTH {
-        let row = Steps::of(places);
-        run(rt, alloc, door, Head::with(0, 100), places.len(), &row);
-    }
+    take_steps!(rt, Head::with(0, 100), places);
 }
 
 // While the drive is at 10, places 1 and 2 request 20, and place 3 requests 30. Place 4 requests 20 when place 1 has
 // the drive there, and gets it last.
 #[test]
 fn a_request_for_the_cylinder_of_the_head_waits_on_each_door(host: HostRuntime) {
-    let (rt, alloc) = (&host, host.alloc());
+    let rt = &host;
     let places: &[&[Step<HeadCall>]] = &[
         &[
             Calls(Requests(10, Ok(0))),
@@ -183,8 +163,5 @@ fn a_request_for_the_cylinder_of_the_head_waits_on_each_door(host: HostRuntime) 
             Calls(Releases(5)),
         ],
     ];
-    for door in DoorKind::BOTH {
-        let row = Steps::of(places);
-        run(rt, alloc, door, Head::with(0, 100), places.len(), &row);
-    }
+    take_steps!(rt, Head::with(0, 100), places);
 }

@@ -1,20 +1,18 @@
 //! The single item, and the bounded buffer with conditions of both kinds.
 ghost use Rattle.std.specs.Prelude.{◌≡◌};
 
+use crate::tests::awaited::{Turns, count_waiting};
 use crate::tests::compared::expect_same;
-use crate::tests::row::{DoorKind, Row, run};
 use crate::tests::schedulers::steps::Step::{Awaits, Calls, LinesUp};
-use crate::tests::schedulers::steps::{Call, Step, Steps, Turns, takes_steps};
-use baton_door::place::DoorOut;
+use crate::tests::schedulers::steps::{Call, Step, take_steps};
+use door_frame::place::Outside;
 use hoare_law::monitor::Monitor;
 use plain_schedulers::buffer::mesa::MesaBuffer;
 use plain_schedulers::buffer::{Buffer, NONEMPTY};
 use plain_schedulers::single::{NotOut, Single};
 use std::process::Abort;
-use std::rt::Clock;
 use std::sync::Wait;
 use std::test::Fail;
-use test_support::running::count_waiting;
 
 /// A call of a single item.
 #[derive(Clone, Copy)]
@@ -59,34 +57,18 @@ pub fn calls_single<R: Wait + Abort, M: Monitor<Single<u64>>>(
 }
 
 impl Call<Single<u64>> for SingleCall {
-    fn make<R: Wait + Abort + Clock, M: Monitor<Single<u64>, Out = DoorOut<Single<u64>>>>(
+    fn make<R: Wait + Abort + AllocGlobal, M: Monitor<Single<u64>, Out = Outside<Single<u64>>>>(
         self,
         rt: &R,
         m: &M,
-        out: DoorOut<Single<u64>>,
+        out: Outside<Single<u64>>,
         _turns: &Turns,
-    ) -> DoorOut<Single<u64>>
+    ) -> Outside<Single<u64>>
         requires { M.is_of m.now out }
         ensures of { M.is_of m.now result }
         ensures place { M.place result ≡ M.place out }
     {
         calls_single(rt, m, out, self)
-    }
-}
-
-impl Row<Single<u64>> for Steps<'_, '_, SingleCall> {
-    fn act<R: Wait + Abort + Clock, M: Monitor<Single<u64>, Out = DoorOut<Single<u64>>>>(
-        &self,
-        rt: &R,
-        m: &M,
-        out: DoorOut<Single<u64>>,
-        place: usize,
-    ) -> (DoorOut<Single<u64>>, u64)
-        requires { M.is_of m.now out }
-        ensures of { M.is_of m.now result.0 }
-        ensures place { M.place result.0 ≡ M.place out }
-    {
-        takes_steps(rt, m, out, place, self)
     }
 }
 
@@ -105,13 +87,13 @@ enum BufferCall {
 use BufferCall::{Appends, Broadcasts, Removes};
 
 impl Call<Buffer<u64>> for BufferCall {
-    fn make<R: Wait + Abort + Clock, M: Monitor<Buffer<u64>, Out = DoorOut<Buffer<u64>>>>(
+    fn make<R: Wait + Abort + AllocGlobal, M: Monitor<Buffer<u64>, Out = Outside<Buffer<u64>>>>(
         self,
         rt: &R,
         m: &M,
-        out: DoorOut<Buffer<u64>>,
+        out: Outside<Buffer<u64>>,
         _turns: &Turns,
-    ) -> DoorOut<Buffer<u64>>
+    ) -> Outside<Buffer<u64>>
         requires { M.is_of m.now out }
         ensures of { M.is_of m.now result }
         ensures place { M.place result ≡ M.place out }
@@ -125,22 +107,6 @@ impl Call<Buffer<u64>> for BufferCall {
             }
             Broadcasts(_) => panic!(rt; "a buffer has Hoare's conditions"),
         }
-    }
-}
-
-impl Row<Buffer<u64>> for Steps<'_, '_, BufferCall> {
-    fn act<R: Wait + Abort + Clock, M: Monitor<Buffer<u64>, Out = DoorOut<Buffer<u64>>>>(
-        &self,
-        rt: &R,
-        m: &M,
-        out: DoorOut<Buffer<u64>>,
-        place: usize,
-    ) -> (DoorOut<Buffer<u64>>, u64)
-        requires { M.is_of m.now out }
-        ensures of { M.is_of m.now result.0 }
-        ensures place { M.place result.0 ≡ M.place out }
-    {
-        takes_steps(rt, m, out, place, self)
     }
 }
 
@@ -164,13 +130,16 @@ fn broadcasts<R: Wait + Abort, M: Monitor<MesaBuffer<u64>>>(
 }
 
 impl Call<MesaBuffer<u64>> for BufferCall {
-    fn make<R: Wait + Abort + Clock, M: Monitor<MesaBuffer<u64>, Out = DoorOut<MesaBuffer<u64>>>>(
+    fn make<
+        R: Wait + Abort + AllocGlobal,
+        M: Monitor<MesaBuffer<u64>, Out = Outside<MesaBuffer<u64>>>,
+    >(
         self,
         rt: &R,
         m: &M,
-        out: DoorOut<MesaBuffer<u64>>,
+        out: Outside<MesaBuffer<u64>>,
         _turns: &Turns,
-    ) -> DoorOut<MesaBuffer<u64>>
+    ) -> Outside<MesaBuffer<u64>>
         requires { M.is_of m.now out }
         ensures of { M.is_of m.now result }
         ensures place { M.place result ≡ M.place out }
@@ -187,26 +156,10 @@ impl Call<MesaBuffer<u64>> for BufferCall {
     }
 }
 
-impl Row<MesaBuffer<u64>> for Steps<'_, '_, BufferCall> {
-    fn act<R: Wait + Abort + Clock, M: Monitor<MesaBuffer<u64>, Out = DoorOut<MesaBuffer<u64>>>>(
-        &self,
-        rt: &R,
-        m: &M,
-        out: DoorOut<MesaBuffer<u64>>,
-        place: usize,
-    ) -> (DoorOut<MesaBuffer<u64>>, u64)
-        requires { M.is_of m.now out }
-        ensures of { M.is_of m.now result.0 }
-        ensures place { M.place result.0 ≡ M.place out }
-    {
-        takes_steps(rt, m, out, place, self)
-    }
-}
-
 // Place 1 waits for the item that place 0 has, and resumes with it. A second item is given back.
 #[test]
 fn an_item_is_lent_on_each_door(host: HostRuntime) {
-    let (rt, alloc) = (&host, host.alloc());
+    let rt = &host;
     let places: &[&[Step<SingleCall>]] = &[
         &[Calls(Acquires(7)), LinesUp(1), Calls(Releases(7))],
         &[
@@ -217,16 +170,13 @@ fn an_item_is_lent_on_each_door(host: HostRuntime) {
             Calls(Acquires(7)),
         ],
     ];
-    for door in DoorKind::BOTH {
-        let row = Steps::of(places);
-        run(rt, alloc, door, Single::with(7), places.len(), &row);
-    }
+    take_steps!(rt, Single::with(7), places);
 }
 
 // Four items go through one cell.
 #[test]
 fn items_come_out_in_order_on_each_door(host: HostRuntime) -> Result<(), Fail> {
-    let (rt, alloc) = (&host, host.alloc());
+    let rt = &host;
     let places: &[&[Step<BufferCall>]] = &[
         &[
             Calls(Appends(1)),
@@ -241,11 +191,7 @@ fn items_come_out_in_order_on_each_door(host: HostRuntime) -> Result<(), Fail> {
             Calls(Removes(4)),
         ],
     ];
-    for door in DoorKind::BOTH {
-        let row = Steps::of(places);
-        let buffer = Buffer::<u64>::make(alloc, 1)?;
-        run(rt, alloc, door, buffer, places.len(), &row);
-    }
+    take_steps!(rt, Buffer::make(rt.alloc(), 1)?, places);
     Ok(())
 }
 
@@ -253,7 +199,7 @@ fn items_come_out_in_order_on_each_door(host: HostRuntime) -> Result<(), Fail> {
 // the order in which they came.
 #[test]
 fn notified_processes_test_again_on_each_door(host: HostRuntime) -> Result<(), Fail> {
-    let (rt, alloc) = (&host, host.alloc());
+    let rt = &host;
     let places: &[&[Step<BufferCall>]] = &[
         &[
             LinesUp(2),
@@ -264,10 +210,6 @@ fn notified_processes_test_again_on_each_door(host: HostRuntime) -> Result<(), F
         &[Awaits(1), Calls(Removes(1))],
         &[Awaits(2), Calls(Removes(2))],
     ];
-    for door in DoorKind::BOTH {
-        let row = Steps::of(places);
-        let buffer = MesaBuffer::<u64>::make(alloc, 1)?;
-        run(rt, alloc, door, buffer, places.len(), &row);
-    }
+    take_steps!(rt, MesaBuffer::make(rt.alloc(), 1)?, places);
     Ok(())
 }

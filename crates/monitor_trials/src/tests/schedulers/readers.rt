@@ -1,17 +1,15 @@
 //! The readers and writers: which process waits for which others, and the most readers.
 ghost use Rattle.std.specs.Prelude.{◌≡◌};
 
+use crate::tests::awaited::Turns;
 use crate::tests::compared::{expect_same, reads_as};
-use crate::tests::row::{DoorKind, Row, run};
 use crate::tests::schedulers::fake::with_answers;
 use crate::tests::schedulers::steps::Step::{Awaits, Calls, LinesUp};
-use crate::tests::schedulers::steps::{Call, Step, Steps, Turns, line_up, takes_steps};
-use baton_door::place::DoorOut;
+use crate::tests::schedulers::steps::{Call, Step, line_up, take_steps};
+use door_frame::place::Outside;
 use hoare_law::monitor::Monitor;
 use hoare_law::waits::Waits;
-use std::alloc::Global;
 use std::process::Abort;
-use std::rt::Clock;
 use std::sync::Wait;
 use sweep_schedulers::not_out::NotOut;
 use sweep_schedulers::readers_writers::{
@@ -36,7 +34,7 @@ enum SharedCall {
     /// to wait, at the turns from 1 on. They wait until the last of the reads has ended.
     ReadsMost(u64, (usize, usize)),
     /// Attempts to end a read while no reader is in, with a pass of another monitor: it is given back.
-    IsNoReader(Global),
+    IsNoReader,
 }
 
 use SharedCall::{EndsWrite, IsNoReader, IsNoWriter, Reads, ReadsMost, StartsWrite};
@@ -178,36 +176,35 @@ fn reads_most<R: Wait + Abort, M: Monitor<Shared>>(
 
 // Attempts to end a read while no reader is in, with a pass of a monitor for tests. Fails the test unless the pass is
 // given back, and ends the read at its own monitor.
-fn is_no_reader<R: Wait + Abort, M: Monitor<Shared>>(
+fn is_no_reader<R: Wait + Abort + AllocGlobal, M: Monitor<Shared>>(
     rt: &R,
     m: &M,
     out: M::Out,
-    alloc: Global,
 ) -> M::Out
     requires { M.is_of m.now out }
     ensures of { M.is_of m.now result }
     ensures place { M.place result ≡ M.place out }
 {
-    let (other, place) = with_answers(rt, alloc, ReadersWriters::with(8), []);
+    let (other, place) = with_answers(rt, rt.alloc(), ReadersWriters::with(8), []);
     let (place, pass) = starts_read(rt, &other, place, 8);
     let (out, ended) = ReadersWriters::end_read(m, rt, out, pass);
     let Err(refused) = ended else {
         panic!(rt; "a reader was in")
     };
-    reads_as(rt, alloc, &refused, "no reader is in");
+    reads_as(rt, rt.alloc(), &refused, "no reader is in");
     let NoReader { pass } = refused;
     ends_read(rt, &other, place, pass);
     out
 }
 
 impl Call<Shared> for SharedCall {
-    fn make<R: Wait + Abort + Clock, M: Monitor<Shared, Out = DoorOut<Shared>>>(
+    fn make<R: Wait + Abort + AllocGlobal, M: Monitor<Shared, Out = Outside<Shared>>>(
         self,
         rt: &R,
         m: &M,
-        out: DoorOut<Shared>,
+        out: Outside<Shared>,
         turns: &Turns,
-    ) -> DoorOut<Shared>
+    ) -> Outside<Shared>
         requires { M.is_of m.now out }
         ensures of { M.is_of m.now result }
         ensures place { M.place result ≡ M.place out }
@@ -221,27 +218,17 @@ impl Call<Shared> for SharedCall {
                 let out = finds_waiting(rt, m, out, waiting);
                 ends_read(rt, m, out, pass)
             }
-            ReadsMost(value, waiting) => {
-                reads_most(rt, m, out, turns, MOST_READERS, value, waiting)
-            }
-            IsNoReader(alloc) => is_no_reader(rt, m, out, alloc),
+            ReadsMost(value, waiting) => reads_most(
+                rt,
+                m,
+                out,
+                turns,
+                MOST_READERS,
+                value,
+                waiting,
+            ),
+            IsNoReader => is_no_reader(rt, m, out),
         }
-    }
-}
-
-impl Row<Shared> for Steps<'_, '_, SharedCall> {
-    fn act<R: Wait + Abort + Clock, M: Monitor<Shared, Out = DoorOut<Shared>>>(
-        &self,
-        rt: &R,
-        m: &M,
-        out: DoorOut<Shared>,
-        place: usize,
-    ) -> (DoorOut<Shared>, u64)
-        requires { M.is_of m.now out }
-        ensures of { M.is_of m.now result.0 }
-        ensures place { M.place result.0 ≡ M.place out }
-    {
-        takes_steps(rt, m, out, place, self)
     }
 }
 
@@ -249,7 +236,7 @@ impl Row<Shared> for Steps<'_, '_, SharedCall> {
 // The writer is the last to act.
 #[test]
 fn readers_come_before_a_writer_on_each_door(host: HostRuntime) {
-    let (rt, alloc) = (&host, host.alloc());
+    let rt = &host;
     let places: &[&[Step<SharedCall>]] = &[
         &[Calls(StartsWrite(0)), LinesUp(3), Calls(EndsWrite(3))],
         &[Awaits(1), Calls(Reads(3, (0, 1)))],
@@ -260,29 +247,21 @@ fn readers_come_before_a_writer_on_each_door(host: HostRuntime) {
             Calls(EndsWrite(4)),
             Calls(IsNoWriter(5)),
             Calls(ReadsMost(4, (0, 0))),
-            Calls(IsNoReader(alloc)),
+            Calls(IsNoReader),
         ],
     ];
-    for door in DoorKind::BOTH {
-        let row = Steps::of(places);
-        let (left, _) = run(rt, alloc, door, ReadersWriters::with(0), places.len(), &row);
-        expect_same(rt, left.into_value(), 4);
-    }
+    take_steps!(rt, ReadersWriters::with(0), places);
 }
 
 // While the most readers are in, a writer begins to wait, and then a reader. The writer comes after all the reads, and
 // the late reader after the writer.
 #[test]
 fn a_late_reader_waits_for_the_writer_on_each_door(host: HostRuntime) {
-    let (rt, alloc) = (&host, host.alloc());
+    let rt = &host;
     let places: &[&[Step<SharedCall>]] = &[
         &[Calls(ReadsMost(4, (1, 1)))],
         &[Awaits(1), Calls(StartsWrite(4)), Calls(EndsWrite(6))],
         &[Awaits(2), Calls(Reads(6, (0, 0)))],
     ];
-    for door in DoorKind::BOTH {
-        let row = Steps::of(places);
-        let (left, _) = run(rt, alloc, door, ReadersWriters::with(4), places.len(), &row);
-        expect_same(rt, left.into_value(), 6);
-    }
+    take_steps!(rt, ReadersWriters::with(4), places);
 }

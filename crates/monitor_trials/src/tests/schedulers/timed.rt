@@ -1,14 +1,13 @@
 //! The alarm clock, and the pool of buffers.
 ghost use Rattle.std.specs.Prelude.{◌≡◌};
 
+use crate::tests::awaited::Turns;
 use crate::tests::compared::expect_same;
-use crate::tests::row::{DoorKind, Row, run};
 use crate::tests::schedulers::steps::Step::{Awaits, Calls, Finds, LinesUp, Watches};
-use crate::tests::schedulers::steps::{Call, Step, Steps, Turns, takes_steps};
-use baton_door::place::DoorOut;
+use crate::tests::schedulers::steps::{Call, Step, take_steps};
+use door_frame::place::Outside;
 use hoare_law::monitor::Monitor;
 use std::process::Abort;
-use std::rt::Clock;
 use std::sync::Wait;
 use std::test::Fail;
 use timed_schedulers::alarm::{Alarm, ClockFull, TooFar};
@@ -26,13 +25,13 @@ enum AlarmCall {
 use AlarmCall::{Sleeps, Ticks};
 
 impl Call<Alarm> for AlarmCall {
-    fn make<R: Wait + Abort + Clock, M: Monitor<Alarm, Out = DoorOut<Alarm>>>(
+    fn make<R: Wait + Abort + AllocGlobal, M: Monitor<Alarm, Out = Outside<Alarm>>>(
         self,
         rt: &R,
         m: &M,
-        out: DoorOut<Alarm>,
+        out: Outside<Alarm>,
         _turns: &Turns,
-    ) -> DoorOut<Alarm>
+    ) -> Outside<Alarm>
         requires { M.is_of m.now out }
         ensures of { M.is_of m.now result }
         ensures place { M.place result ≡ M.place out }
@@ -49,22 +48,6 @@ impl Call<Alarm> for AlarmCall {
                 out
             }
         }
-    }
-}
-
-impl Row<Alarm> for Steps<'_, '_, AlarmCall> {
-    fn act<R: Wait + Abort + Clock, M: Monitor<Alarm, Out = DoorOut<Alarm>>>(
-        &self,
-        rt: &R,
-        m: &M,
-        out: DoorOut<Alarm>,
-        place: usize,
-    ) -> (DoorOut<Alarm>, u64)
-        requires { M.is_of m.now out }
-        ensures of { M.is_of m.now result.0 }
-        ensures place { M.place result.0 ≡ M.place out }
-    {
-        takes_steps(rt, m, out, place, self)
     }
 }
 
@@ -105,13 +88,13 @@ pub fn calls_pool<R: Wait + Abort, M: Monitor<Pool>>(
 }
 
 impl Call<Pool> for PoolCall {
-    fn make<R: Wait + Abort + Clock, M: Monitor<Pool, Out = DoorOut<Pool>>>(
+    fn make<R: Wait + Abort + AllocGlobal, M: Monitor<Pool, Out = Outside<Pool>>>(
         self,
         rt: &R,
         m: &M,
-        out: DoorOut<Pool>,
+        out: Outside<Pool>,
         _turns: &Turns,
-    ) -> DoorOut<Pool>
+    ) -> Outside<Pool>
         requires { M.is_of m.now out }
         ensures of { M.is_of m.now result }
         ensures place { M.place result ≡ M.place out }
@@ -120,26 +103,10 @@ impl Call<Pool> for PoolCall {
     }
 }
 
-impl Row<Pool> for Steps<'_, '_, PoolCall> {
-    fn act<R: Wait + Abort + Clock, M: Monitor<Pool, Out = DoorOut<Pool>>>(
-        &self,
-        rt: &R,
-        m: &M,
-        out: DoorOut<Pool>,
-        place: usize,
-    ) -> (DoorOut<Pool>, u64)
-        requires { M.is_of m.now out }
-        ensures of { M.is_of m.now result.0 }
-        ensures place { M.place result.0 ≡ M.place out }
-    {
-        takes_steps(rt, m, out, place, self)
-    }
-}
-
 // The first tick wakes the sleeper of one tick alone. The second wakes both sleepers of two.
 #[test]
 fn sleepers_wake_at_their_settings_on_each_door(host: HostRuntime) {
-    let (rt, alloc) = (&host, host.alloc());
+    let rt = &host;
     let places: &[&[Step<AlarmCall>]] = &[
         &[Calls(Sleeps(2, Ok(2)))],
         &[Calls(Sleeps(2, Ok(2)))],
@@ -152,31 +119,25 @@ fn sleepers_wake_at_their_settings_on_each_door(host: HostRuntime) {
             Finds(0),
         ],
     ];
-    for door in DoorKind::BOTH {
-        let row = Steps::of(places);
-        run(rt, alloc, door, Alarm::at(0), places.len(), &row);
-    }
+    take_steps!(rt, Alarm::at(0), places);
 }
 
 #[test]
 fn a_clock_ends_at_its_last_time_on_each_door(host: HostRuntime) {
-    let (rt, alloc) = (&host, host.alloc());
+    let rt = &host;
     let places: &[&[Step<AlarmCall>]] = &[&[
         Calls(Sleeps(1, Err(TooFar))),
         Calls(Ticks(Err(ClockFull))),
         Calls(Sleeps(0, Ok(u64::MAX))),
     ]];
-    for door in DoorKind::BOTH {
-        let row = Steps::of(places);
-        run(rt, alloc, door, Alarm::at(u64::MAX), places.len(), &row);
-    }
+    take_steps!(rt, Alarm::at(u64::MAX), places);
 }
 
 // Place 1 waits for stream 0, which holds two buffers, and then place 2 waits for stream 2, which holds none. The first
 // buffer that is given back goes to place 2.
 #[test]
 fn a_buffer_goes_to_the_stream_with_the_fewest_on_each_door(host: HostRuntime) -> Result<(), Fail> {
-    let (rt, alloc) = (&host, host.alloc());
+    let rt = &host;
     let places: &[&[Step<PoolCall>]] = &[
         &[
             Calls(Takes(0, Ok(0))),
@@ -195,10 +156,6 @@ fn a_buffer_goes_to_the_stream_with_the_fewest_on_each_door(host: HostRuntime) -
         &[Awaits(1), Calls(Takes(0, Ok(0)))],
         &[Awaits(2), Calls(Takes(2, Ok(2)))],
     ];
-    for door in DoorKind::BOTH {
-        let row = Steps::of(places);
-        let pool = Pool::make(alloc, 3, 3)?;
-        run(rt, alloc, door, pool, places.len(), &row);
-    }
+    take_steps!(rt, Pool::make(rt.alloc(), 3, 3)?, places);
     Ok(())
 }

@@ -1,5 +1,5 @@
 use Rattle.std.proofs.Common.{rules}
-use Rattle.test_support.proofs.Numbered.{HasPlace-numbered}
+use Rattle.monitor_trials.proofs.Numbered.{HasPlace-numbered}
 use Rattle.monitor_trials.proofs.tests.doors.tickets.tickets_from.Goals as goal
 
 pub close-requires-clause-places : goal.close-requires-clause-places

@@ -1,5 +1,5 @@
 use Rattle.std.specs.Prelude.{◌≡◌}
-use Rattle.test_support.proofs.running.watch.Given as goal
+use Rattle.monitor_trials.proofs.tests.doors.tries.enters.Given as goal
 
 -- the place stays one of the monitor's, and keeps its number
 abbrev pub invariant-loop : goal.invariant-loop

@@ -1,5 +1,5 @@
 use Rattle.std.specs.Prelude.{◌≡◌}
-use Rattle.monitor_trials.proofs.tests.schedulers.steps.watch.Given as goal
+use Rattle.monitor_trials.proofs.tests.awaited.watch.Given as goal
 
 -- the place stays one of the monitor's, and keeps its number
 abbrev pub invariant-loop : goal.invariant-loop

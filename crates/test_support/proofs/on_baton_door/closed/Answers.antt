@@ -1,6 +1,0 @@
-use Rattle.test_support.proofs.Numbered.{HasPlace-numbered}
-use Rattle.std.proofs.Common.{rules}
-use Rattle.test_support.proofs.on_baton_door.closed.Goals as goal
-
-pub close-requires-clause-places : goal.close-requires-clause-places
-close-requires-clause-places g c = λ _ _ k l. HasPlace-numbered c.args.outs.items c.requires.numbered k (search rules)

@@ -1,7 +1,7 @@
 -- Lists of numbers, the log of a shelf, and elements of lists.
 use Rattle.std.proofs.Common.{◌≡◌, ◌≢◌, ◌⊎◌, ⊎_elim, inl, inr, length, ℕ, zero, suc, ◌<◌, Bool, true, false, List, [], ◌∷◌, ◌++◌, set, get_or, replicate}
-use Rattle.std.proofs.Common.{Option, Some, None, refl, sym, ap, ◌∙◌, arith, eqb, eq-eqb, ne_eqb, append_assoc, append-nil}
-use Rattle.std.specs.Prelude.{if◌then◌else◌}
+use Rattle.std.proofs.Common.{Option, Some, None, refl, sym, ap, ◌∙◌, arith, eqb, eq-eqb, eqb-true, true≢false, ne_eqb, ◌≤◌, append_assoc, append-nil}
+use Rattle.std.specs.Prelude.{if◌then◌else◌, ◌==◌}
 use mathlib.Core.Option.{some, some-injective, some-ne-none}
 use lib.ListN.{get_elem?}
 use Rattle.shelf.specs.declared.view.Change.{Change}
@@ -108,3 +108,48 @@ module _ {T : Type 0} where
   taken_take k [] = refl
   taken_take k (Put j y ∷ log) = taken_take k log
   taken_take k (Take j ∷ log) = ap (λ (ks : List ℕ). j ∷ ks) (taken_take k log)
+
+-- without the first n
+abbrev drop_one : ℕ → List ℕ → List ℕ
+drop_one n [] = []
+drop_one n (k ∷ ks) = if k == n then ks else k ∷ drop_one n ks
+
+each_dropped : (P : ℕ → Type 0) (n : ℕ) (ks : List ℕ) → Each P ks → Each P (drop_one n ks)
+each_dropped P n [] h = tt
+each_dropped P n (k ∷ ks) h = by (k == n) (each_dropped P n ks h.1)
+  where
+    by : (b : Bool) → Each P (drop_one n ks) → Each P (if b then ks else k ∷ drop_one n ks)
+    by true rest = h.1
+    by false rest = (h.0, rest)
+
+apart_dropped : (n : ℕ) (ks : List ℕ) → Apart ks → Apart (drop_one n ks) × Each (λ j. j ≢ n) (drop_one n ks)
+apart_dropped n [] h = (tt, tt)
+apart_dropped n (k ∷ ks) h = by (eqb k n) refl (apart_dropped n ks h.1)
+  where
+    by : (b : Bool) → eqb k n ≡ b → Apart (drop_one n ks) × Each (λ j. j ≢ n) (drop_one n ks)
+        → Apart (if b then ks else k ∷ drop_one n ks) × Each (λ j. j ≢ n) (if b then ks else k ∷ drop_one n ks)
+    by true is rest =
+        let same = eqb-true k n is in
+        (h.1, each_map (λ j. j ≢ k) (λ j. j ≢ n) (λ j other is_n. other (is_n ∙ sym same)) ks h.0)
+    by false is rest =
+        ((each_dropped (λ j. j ≢ k) n ks h.0, rest.0), ((λ same. true≢false (sym (eq-eqb k n same) ∙ is)), rest.1))
+
+one_less : (n : ℕ) (ks : List ℕ) → length ks ≤ suc (length (drop_one n ks))
+one_less n [] = omega arith
+one_less n (k ∷ ks) = by (k == n) (one_less n ks)
+  where
+    by : (b : Bool) → length ks ≤ suc (length (drop_one n ks))
+        → suc (length ks) ≤ suc (length (if b then ks else k ∷ drop_one n ks))
+    by true rest = omega arith
+    by false rest = omega (arith, rest)
+
+-- there are at most n different numbers below n
+pub few : (n : ℕ) (ks : List ℕ) → AreNumbers n ks → length ks ≤ n
+few zero [] h = omega arith
+few zero (k ∷ ks) h = let less = h.0.0 in absurd (omega (arith, less))
+few (suc n) ks h =
+    let apart = apart_dropped n ks h.1 in
+    let below = each_with (λ j. j < suc n) (λ j. j ≢ n) (λ j. j < n) (λ j less other. omega (arith, less, other))
+    (drop_one n ks) (each_dropped (λ j. j < suc n) n ks h.0) apart.1 in
+    let rest = few n (drop_one n ks) (below, apart.0) in
+    let more = one_less n ks in omega (arith, rest, more)

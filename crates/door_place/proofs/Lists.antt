@@ -15,7 +15,7 @@ use Rattle.baton_door.specs.StepDoors.{StepId}
 use Rattle.door_frame.specs.Places.{DoorId, HasPlace, IsOut, PlaceOut, place_id_at, place_out, places_from}
 use Rattle.door_frame.proofs.Views.{places_more}
 use Rattle.door_place.specs.Returns.{Collects, IsAbsent, IsOnShelf, KeeperOf, Log, Tries, WasAbsent, WasTaken, absent}
-use Rattle.door_place.specs.Returns.{found, numbers_onto}
+use Rattle.door_place.specs.Returns.{Refills, as_it_was, collected, found, numbers_onto}
 use Rattle.door_place.specs.States.{Carried, any, calm}
 
 pub has_at : (k i : ℕ) (os : List (PlaceOut Carried)) (else_one : PlaceOut Carried) → i < length os
@@ -99,6 +99,34 @@ numbers_all d (suc n) f =
     ∙ ap (numbers_onto []) (places_more d 0 n f)
     ∙ numbers_push [] (places_from d 0 n f) (place_out (place_id_at d (0 + n)) (0 + n) f)
     ∙ (λ i. last i ∷ numbers_all d n f i)
+
+pub below_long : (n : ℕ) → length (numbers_below n) ≡ n
+below_long zero = refl
+below_long (suc n) = ap suc (below_long n)
+
+abbrev head_or : ℕ → List ℕ → ℕ
+head_or d [] = d
+head_or d (k ∷ ks) = k
+
+abbrev tail_of : List ℕ → List ℕ
+tail_of [] = []
+tail_of (k ∷ ks) = ks
+
+pub same_head : (j k : ℕ) (js ks : List ℕ) → j ∷ js ≡ k ∷ ks → j ≡ k
+same_head j k js ks is = ap (head_or j) is
+
+pub same_tail : (j k : ℕ) (js ks : List ℕ) → j ∷ js ≡ k ∷ ks → js ≡ ks
+same_tail j k js ks is = ap tail_of is
+
+-- a keeper that has no place in hand after it refilled had none before
+pub had_none : (old new : KeeperOf) → Refills old new → new.outs ≡ [] → old.outs ≡ []
+had_none old new (as_it_was is) none = ap (λ (k : KeeperOf). k.outs) (sym is) ∙ none
+had_none old new (collected none c) _ = none
+
+-- the keeper of the same door
+pub same_door : (old new : KeeperOf) → Refills old new → new.door ≡ old.door
+same_door old new (as_it_was is) = ap (λ (k : KeeperOf). k.door) is
+same_door old new (collected none c) = c.door
 
 -- the keeper collected none of the places yet
 pub none_yet : (k : KeeperOf) → Collects 0 k k

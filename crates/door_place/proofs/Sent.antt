@@ -80,7 +80,7 @@ place_send = view_send place-inside.the_row _ _ _ _
     (recorded_send place-inside.the_field.row _ _ place-inside.the_type.to_one
     (struct_send (shape place-inside.the_type) (Arc-send _ shares.the_send shared_sync, (
       states.the_field_send,
-      (options.the_send Slip slip_send, tt),
+      (options.the_field_send Slip slip_send, tt),
     ))))
 
 pub keeper_send : IsSend keeper.the_row

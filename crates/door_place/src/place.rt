@@ -86,9 +86,8 @@ impl Place {
         requires slip { slip ≡ slip_of (shelf_id self.old.shelf self.old.door) out.place }
         ensures { self.new ≡ place_at (shelf_id self.old.shelf self.old.door) (Outside out) }
     {
-        let State::Nowhere = mem::replace(&mut self.state, State::Outside(out)) else {
-            unreachable!()
-        };
+        let old = mem::replace(&mut self.state, State::Outside(out));
+        let State::Nowhere = old else { unreachable!() };
         self.slip = Some(slip);
     }
 

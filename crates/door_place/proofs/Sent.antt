@@ -78,15 +78,21 @@ collector_send = collectors.the_send returned.the_row Door returned_ghosts retur
 pub place_send : IsSend place.the_row
 place_send = view_send place-inside.the_row _ _ _ _
     (recorded_send place-inside.the_field.row _ _ place-inside.the_type.to_one
-    (struct_send (shape place-inside.the_type) (Arc-send _ shares.the_send shared_sync, (
-      states.the_field_send,
-      (options.the_field_send Slip slip_send, tt),
-    ))))
+    (struct_send (shape place-inside.the_type) (
+      Arc-send _ shares.the_send shared_sync,
+      (
+        states.the_field_send,
+        (options.the_field_send Slip slip_send, tt),
+      ),
+    )))
 
 pub keeper_send : IsSend keeper.the_row
 keeper_send = view_send keeper-inside.the_row _ _ _ _
     (recorded_send keeper-inside.the_field.row _ _ keeper-inside.the_type.to_one
-    (struct_send (shape keeper-inside.the_type) (Arc-send _ shares.the_send shared_sync, (
-      Vec-send _ out_send,
-      (collector_send, tt),
-    ))))
+    (struct_send (shape keeper-inside.the_type) (
+      Arc-send _ shares.the_send shared_sync,
+      (
+        Vec-send _ out_send,
+        (collector_send, tt),
+      ),
+    )))

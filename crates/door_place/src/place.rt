@@ -46,7 +46,11 @@ impl Model for Place {
 
 impl Drop for Place {
     fn drop(self) {
-        let Place { shared, state, slip: _ } = self;
+        let Place {
+            shared,
+            state,
+            slip: _,
+        } = self;
         match state {
             State::Inside(inside) => {
                 calls::leave_to(shared.door(), inside);

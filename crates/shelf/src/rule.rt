@@ -34,7 +34,13 @@ impl<T: Shelved> TableRule<Option<T>, View<T, T::Tag>, T::Tag> for ShelfRule<T> 
 }
 
 /// The table of a shelf: one word and one slot for each number.
-pub(crate) type ShelfTable<T> = Table<Option<T>, View<T, <T as Shelved>::Tag>, <T as Shelved>::Tag, ShelfRule<T>, Global>;
+pub(crate) type ShelfTable<T> = Table<
+    Option<T>,
+    View<T, <T as Shelved>::Tag>,
+    <T as Shelved>::Tag,
+    ShelfRule<T>,
+    Global,
+>;
 
 /// A seat of that table.
 pub(crate) type ShelfSeat<T> = Seat<Option<T>, View<T, <T as Shelved>::Tag>>;

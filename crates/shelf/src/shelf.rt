@@ -108,7 +108,10 @@ impl<T: Shelved + Drop> Shelf<T> {
         ensures log { collector.new.log ≡ collector.old.log }
         ensures lent { collector.old.in_hand ≡ result.number ∷ collector.new.in_hand }
     {
-        let seat = self.table.shared.split_seat::<SplitFirst>(&mut collector.seat);
+        let seat = self
+            .table
+            .shared
+            .split_seat::<SplitFirst>(&mut collector.seat);
         Slip { seat }
     }
 

@@ -14,8 +14,7 @@ use Rattle.door_place.proofs.keeper.Keeper.give_out.Goals as goal
 pub lend-slip-requires-clause-some : goal.lend-slip-requires-clause-some
 lend-slip-requires-clause-some c =
     let left = c.pop.new.self.items in
-    let out = c.in-Some.out in
-    (
+    let out = c.in-Some.out in (
       out.place,
       numbers_onto [] left,
       c.self.invariant.2 ∙ ap (numbers_onto []) c.in-Some.ensures.items ∙ numbers_push [] left out,
@@ -43,7 +42,7 @@ invariant_of-self c =
     let room = c.self.invariant.3 in
     let capacity = c.pop.ensures.capacity in (
       (All-pop (IsOut calm any d.tag.kinds d.tag.door) c.self.inside.outs.items left (Some out) c.in-Some.ensures.items
-      c.self.invariant.0).0,
+          c.self.invariant.0).0,
       e.shelf.0 ∙ c.shelf.ensures ∙ c.deref.ensures,
       same_tail _ _ _ _ (sym e.lent ∙ hand),
       omega (arith, capacity, room),

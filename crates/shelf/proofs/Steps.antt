@@ -1,29 +1,27 @@
 -- Each step of a shelf keeps the rule.
-use Rattle.std.proofs.Common.{◌≡◌, ◌≢◌, ◌⊎◌, ⊎_elim, ℕ, zero, suc, ◌+◌, ◌<◌, Bool, true, false, cond, eqb, List, [], ◌∷◌}
-use Rattle.std.proofs.Common.{◌++◌, length, get_or, set, map, replicate, Option, Some, None, sym, refl, ap, ◌∙◌, subst}
-use Rattle.std.proofs.Common.{arith, eq-eqb, ne_eqb, eqb-true, true≢false}
+use Rattle.std.proofs.Common.{◌≡◌, ◌≢◌, ⊎_elim, ℕ, zero, suc, ◌<◌, Bool, cond, eqb, List, [], ◌∷◌}
+use Rattle.std.proofs.Common.{◌++◌, length, get_or, set, replicate, Option, Some, None, sym, refl, ap, ◌∙◌, subst}
+use Rattle.std.proofs.Common.{arith, eq-eqb, ne_eqb}
 use mathlib.Core.Logic.{dite}
 use native.Mathlib.Decide.{ℕ_discrete}
 use mathlib.Core.Option.{none, some, some-injective, some-ne-none}
 use mathlib.Core.Option as maybe
 use lib.ListN.{get_elem?}
 use lib.Seq.{set-get_or}
-use Rattle.atomic_table.specs.Table.{Step, Me, Act, Valid, keeps, takes, gives, stepped, carried_after, opening, Allows, Splits}
-use Rattle.atomic_table.proofs.Lists.{at_set, set_again, set_else, at_map}
-use Rattle.shelf.specs.declared.view.Change.{Change}
+use Rattle.atomic_table.specs.Table.{Step, Act, Valid, keeps, takes, gives, stepped, carried_after, opening, Allows, Splits}
+use Rattle.atomic_table.proofs.Lists.{at_set, set_else, at_map}
 use Rattle.shelf.specs.declared.view.Change.TheVariants.{Put, Take}
 use Rattle.shelf.specs.declared.view.Role.{Role}
 use Rattle.shelf.specs.declared.view.Role.TheVariants.{Keeps, Fetches, Lent, Puts, Done}
 use Rattle.shelf.specs.declared.view.View.{View}
 use Rattle.shelf.specs.Log.{Begins, Log, shelved, taken}
-use Rattle.shelf.specs.Views.{Each, Apart, AreNumbers, seen, number_of, log_of, in_hand, numbers_below, behind_first}
-use Rattle.shelf.specs.Views.{first_lent}
+use Rattle.shelf.specs.Views.{Each, AreNumbers, seen, number_of, log_of, in_hand, numbers_below}
 use Rattle.shelf.specs.Rule.{Cells, Spot, on_shelf, with_seat, out, word_of, home_of, shelved_of, Collects, Agrees}
 use Rattle.shelf.specs.Rule.{ShelfInvariant, all_in_hand}
 use Rattle.shelf.specs.Steps as step
 use Rattle.shelf.specs.Steps.{SeatState, Moment, Missed, Found}
 use Rattle.shelf.proofs.Lists.{at_end, set_over, found_at, at_replicate, each_map, each_with, numbers_are, begins_refl, begins_push}
-use Rattle.shelf.proofs.Lists.{begins_trans, put_here, put_else, take_here, take_else, taken_put, taken_take}
+use Rattle.shelf.proofs.Lists.{begins_trans, put_here, put_else, take_here, take_else, taken_put}
 
 module _ {T : Type 0} where
   -- the things, with the thing k now at p

@@ -2,7 +2,6 @@
 use Rattle.std.specs.Prelude.{◌≡◌, ◌≢◌, ℕ, List, [], ◌∷◌, ◌++◌, Option, Some, None}
 use Rattle.atomic_table.specs.Table.{Me, Step}
 use Rattle.shelf.specs.declared.view.Change.TheVariants.{Take}
-use Rattle.shelf.specs.declared.view.Role.{Role}
 use Rattle.shelf.specs.declared.view.Role.TheVariants.{Keeps, Fetches, Lent, Puts, Done}
 use Rattle.shelf.specs.declared.view.View.{View}
 use Rattle.shelf.specs.Log.{Begins, Log, shelved, taken}

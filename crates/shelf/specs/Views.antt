@@ -1,5 +1,5 @@
 -- What the seats of a shelf know.
-use Rattle.std.specs.Prelude.{◌≡◌, ◌≢◌, ◌<◌, ℕ, zero, suc, List, [], ◌∷◌}
+use Rattle.std.specs.Prelude.{◌≢◌, ◌<◌, ℕ, zero, suc, List, [], ◌∷◌}
 use Rattle.shelf.specs.declared.view.Role.{Role}
 use Rattle.shelf.specs.declared.view.Role.TheVariants.{Keeps, Fetches, Lent, Puts, Done}
 use Rattle.shelf.specs.declared.view.View.{View}

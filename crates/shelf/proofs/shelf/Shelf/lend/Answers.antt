@@ -1,4 +1,4 @@
-use Rattle.std.proofs.Common.{◌≡◌, ◌<◌, ℕ, List, [], ◌∷◌, sym, ap, ◌∙◌, subst, arith}
+use Rattle.std.proofs.Common.{◌≡◌, ℕ, List, ◌∷◌, sym, ap, ◌∙◌, subst, arith}
 use Rattle.atomic_table.specs.Table.{Splits}
 use Rattle.shelf.specs.declared.view.View.{View}
 use Rattle.shelf.specs.declared.view.Role.TheVariants.{Keeps}

@@ -1,8 +1,8 @@
-use Rattle.std.proofs.Common.{◌≡◌, ℕ, [], ◌∷◌, Some, None, refl, sym, ap, ◌∙◌, subst, arith}
+use Rattle.std.proofs.Common.{◌≡◌, [], ◌∷◌, Some, None, refl, sym, ap, ◌∙◌, subst, arith}
 use mathlib.Core.Option.{none}
 use Rattle.atomic_table.specs.Seated.{TableId}
 use Rattle.atomic_table.specs.Table.{Allows, rest, step}
-use Rattle.shelf.specs.declared.view.Role.TheVariants.{Lent, Puts}
+use Rattle.shelf.specs.declared.view.Role.TheVariants.{Puts}
 use Rattle.shelf.specs.Rule.{ShelfInvariant}
 use Rattle.shelf.specs.Shelves.{ShelfId, SlipOf}
 use Rattle.shelf.specs.Steps.{SeatState, puts, reserves}

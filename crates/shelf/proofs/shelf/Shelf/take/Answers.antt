@@ -1,13 +1,12 @@
-use Rattle.std.proofs.Common.{◌≡◌, ◌<◌, ℕ, List, [], ◌∷◌, ◌++◌, Some, None, IsSome, refl, sym, ap, ◌∙◌, subst, arith}
+use Rattle.std.proofs.Common.{◌≡◌, ◌<◌, ℕ, [], ◌∷◌, ◌++◌, Some, None, IsSome, refl, sym, ap, ◌∙◌, subst, arith}
 use mathlib.Core.Option.{none}
 use Rattle.atomic_table.specs.Seated.{TableId}
 use Rattle.atomic_table.specs.Table.{Allows, rest, step}
 use Rattle.shelf.specs.declared.view.Change.TheVariants.{Take}
-use Rattle.shelf.specs.declared.view.Role.TheVariants.{Keeps, Fetches}
 use Rattle.shelf.specs.Rule.{ShelfInvariant}
-use Rattle.shelf.specs.Shelves.{CollectorOf, ShelfId, shelf_id}
+use Rattle.shelf.specs.Shelves.{shelf_id}
 use Rattle.shelf.specs.Steps.{SeatState, restores, takes}
-use Rattle.shelf.specs.Views.{AreNumbers, in_hand, log_of, seen}
+use Rattle.shelf.specs.Views.{AreNumbers, in_hand, log_of}
 use Rattle.shelf.proofs.Seats.{is_collecting, slot_has, some_is, was_absent, was_taken, collects_at}
 use Rattle.shelf.proofs.Steps.{restores_ok, takes_ok}
 use Rattle.shelf.proofs.shelf.Shelf.take.Goals as goal

@@ -5,8 +5,9 @@
  * something or nothing. A refused act of a place changes nothing. All that a place knows of its door's history is
  * legal, and the place is outside, inside or away in it. An act that releases the monitor returns the place that has
  * the monitor next, below 64, or 64 if none has. A door is closed with the value that one legal history left, which
- * begins with what each of its places knows, as the keeper has them in hand.
- * TESTED: that the keeper collects each place that was given back, with what the place knew.
+ * begins with what each of its places knows, as the keeper has them in hand. What `collect` takes was on the door's
+ * shelf, and what it leaves out was not there at some moment of the call.
+ * TESTED: that a place is on that shelf once its `give_back` has returned.
  * Not proved: this header. The caller owes the following, and nothing checks it:
  *  - `door` and `place` point to handles that were all zero at first and that these functions alone wrote. A handle
  *    is never copied. `value`, `priority` and `resumed` each point to a word of the caller's;

@@ -166,11 +166,15 @@ macro_rules! expect_meeting {
 
 #[test]
 fn two_places_meet(rt: HostRuntime) {
+    expect_meeting!(rt, Door::make(rt.alloc(), Tally { value: 5 }, 2));
+}
+
+#[test]
+fn two_places_of_a_step_door_meet(rt: HostRuntime) {
     let sizes = Sizes {
         places: 2,
         conditions: 1,
         mesa: 0,
     };
-    expect_meeting!(rt, Door::make(rt.alloc(), Tally { value: 5 }, 2));
     expect_meeting!(rt, StepDoor::make(rt.alloc(), Tally { value: 5 }, sizes));
 }

@@ -2,11 +2,10 @@
 use denote.Builtin.{u64}
 use denote.RattleType.{RattleType}
 use denote.Param.{number}
-use denote.Param.Send.{IsSend, IsSync, part_keyless, sendable}
+use denote.Param.Send.{IsSend, IsSync, sendable}
 use denote.Param.Send.{struct_send, struct_sync, recorded_send, recorded_sync, view_send, view_sync}
 use denote.Struct.Declared.{shape}
-use Rattle.std.proofs.Crossing.{Arc-send, Vec-send, Vec-sync}
-use Rattle.std.specs.contracts.option.Option as option
+use Rattle.std.proofs.Crossing.{Arc-send, Vec-send}
 use Rattle.std.proofs.option.Option.TheSendSync as options
 use Rattle.shelf.specs.contracts.shelf.Shelf as shelf
 use Rattle.shelf.proofs.shelf.Shelf.TheSendSync as shelves
@@ -17,13 +16,10 @@ use Rattle.shelf.proofs.shelf.Collector.TheSendSync as collectors
 use Rattle.hoare_law.specs.contracts.unconstrained.Unconstrained as unconstrained
 use Rattle.hoare_law.specs.contracts.unconstrained.UnconstrainedMonitorData.TheImpl.{ghosts as data_ghosts}
 use Rattle.hoare_law.proofs.unconstrained.Unconstrained.TheSendSync as words
-use Rattle.door_frame.specs.contracts.guarded.GuardedBox as guarded
-use Rattle.door_frame.proofs.guarded.GuardedBox.TheSendSync as boxes
 use Rattle.door_frame.specs.contracts.waking.ByCaller as caller
 use Rattle.door_frame.proofs.waking.ByCaller.TheSendSync as callers
 use Rattle.door_frame.specs.contracts.waking.ByCallerParking.TheImpl.{ghosts}
 use Rattle.door_frame.specs.contracts.place.Outside as outside
-use Rattle.door_frame.specs.contracts.place.Outside.TheInside as outside-inside
 use Rattle.door_frame.proofs.place.Outside.TheSendSync as outsides
 use Rattle.baton_door.specs.contracts.step_door.StepDoor as door
 use Rattle.baton_door.proofs.step_door.StepDoor.TheSendSync as doors

@@ -1,5 +1,5 @@
 -- The shelf of a door: the places that were given back, and not collected since.
-use Rattle.std.specs.Prelude.{◌≡◌, ◌⊎◌, ◌<◌, ℕ, List, [], ◌∷◌, ◌++◌, All, Option, Some, None, map}
+use Rattle.std.specs.Prelude.{◌≡◌, ◌⊎◌, ◌<◌, ℕ, List, [], ◌∷◌, ◌++◌, All, Some, None, map}
 use Rattle.shelf.specs.declared.view.Change.TheVariants.{Take}
 use Rattle.shelf.specs.Log as shelf
 use Rattle.shelf.specs.Log.{Begins, shelved, taken}

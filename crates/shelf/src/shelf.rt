@@ -1,5 +1,6 @@
 //! A shelf, its collector, and the right to put a thing there.
-ghost use Rattle.std.specs.Prelude.{◌≡◌, ◌<◌, ℕ, List, [], ◌∷◌, IfOk, IfSome, IfNone, replicate};
+ghost use Rattle.std.specs.Prelude.{◌≡◌, ◌<◌, ℕ, List, [], ◌∷◌, ◌++◌, IfOk, IfSome, IfNone, None, replicate};
+ghost use Rattle.std.specs.Prelude.{vec_capacity, vec_len};
 ghost use Rattle.shelf.specs.Shelves.{WasAbsent, WasTaken, collector_of};
 ghost use Rattle.shelf.specs.Views.{AreNumbers, numbers_below};
 
@@ -84,6 +85,27 @@ fn words(alloc: Global, spots: usize) -> Result<Vec<u64>, AllocError>
     Ok(words)
 }
 
+/// Adds an empty slot.
+#[inline(never)] // else the loop that makes all slots becomes a call of memset, which a kernel may not have
+fn add_empty<T>(slots: &mut Vec<Option<T>>)
+    requires { vec_len slots.old < vec_capacity slots.old }
+    ensures items { slots.new.items ≡ slots.old.items ++ None ∷ [] }
+    ensures capacity { vec_capacity slots.new ≡ vec_capacity slots.old }
+{
+    slots.push_reserved(None);
+}
+
+/// Returns the empty slots of a shelf. Fails if the allocation fails.
+fn slots<T>(alloc: Global, spots: usize) -> Result<Vec<Option<T>>, AllocError>
+    ensures { IfOk result (λ v. v.items ≡ replicate spots None) }
+{
+    let mut slots = Vec::with_capacity(alloc, spots)?;
+    for made in 0..spots {
+        add_empty(&mut slots);
+    }
+    Ok(slots)
+}
+
 impl<T: Shelved + Drop> Shelf<T> {
     /// Creates an empty shelf with `spots` numbers, and its collector, which has all things in hand. Fails if an
     /// allocation fails.
@@ -96,8 +118,11 @@ impl<T: Shelved + Drop> Shelf<T> {
         ensures { IfOk result (λ r. (r.0.tag ≡ tag.now) × (r.1 ≡ collector_of r.0 [] (numbers_below spots))) }
     {
         let words = words(alloc, spots)?;
-        let (table, seat) = Table::vacant(alloc, words.as_slice(), spots, tag)?;
-        Ok((Shelf { table }, Collector { seat }))
+        let slots = slots(alloc, spots)?;
+        match Table::new(alloc, words.as_slice(), slots, tag) {
+            Ok((table, seat)) => Ok((Shelf { table }, Collector { seat })),
+            Err(_) => Err(AllocError),
+        }
     }
 
     /// Lends out the first thing that the collector has in hand: returns the right to put it on the shelf.

@@ -1,9 +1,7 @@
-use Rattle.std.proofs.Common.{◌≡◌, ℕ, List, [], ◌∷◌, Some, refl, sym, ap, ◌∙◌, subst, arith}
-use Rattle.std.specs.Prelude.{All}
+use Rattle.std.proofs.Common.{◌≡◌, [], Some, sym, ap, ◌∙◌, arith}
 use Rattle.std.specs.Arc.{arc_value}
 use Rattle.std.proofs.lemmas.List.Elements.{All-pop}
-use Rattle.shelf.specs.Shelves.{ShelfId, SlipOf, shelf_id, slip_of}
-use Rattle.baton_door.specs.StepDoors.{StepId}
+use Rattle.shelf.specs.Shelves.{shelf_id, slip_of}
 use Rattle.door_frame.specs.Places.{IsOut}
 use Rattle.door_place.specs.Places.{PlaceAt}
 use Rattle.door_place.specs.Returns.{numbers_onto}

@@ -1,5 +1,5 @@
 use denote.Param.Send.{arg_send, param_send}
-use Rattle.std.proofs.Common.{◌≡◌, ℕ, [], length, sym, ap, ◌∙◌, subst, arith}
+use Rattle.std.proofs.Common.{◌≡◌, [], length, sym, ap, ◌∙◌, subst, arith}
 use Rattle.std.specs.Prelude.{All}
 use Rattle.std.specs.Arc.{arc_value}
 use Rattle.shelf.specs.Shelves.{CollectorOf, ShelfId}

@@ -120,12 +120,12 @@ same_tail j k js ks is = ap tail_of is
 
 -- a keeper that has no place in hand after it refilled had none before
 pub had_none : (old new : KeeperOf) → Refills old new → new.outs ≡ [] → old.outs ≡ []
-had_none old new (as_it_was is) none = ap (λ (k : KeeperOf). k.outs) (sym is) ∙ none
+had_none old new (as_it_was some is) none = ap (λ (k : KeeperOf). k.outs) (sym is) ∙ none
 had_none old new (collected none c) _ = none
 
 -- the keeper of the same door
 pub same_door : (old new : KeeperOf) → Refills old new → new.door ≡ old.door
-same_door old new (as_it_was is) = ap (λ (k : KeeperOf). k.door) is
+same_door old new (as_it_was some is) = ap (λ (k : KeeperOf). k.door) is
 same_door old new (collected none c) = c.door
 
 -- the keeper collected none of the places yet

@@ -1,5 +1,5 @@
 -- The shelf of a door: the places that were given back, and not collected since.
-use Rattle.std.specs.Prelude.{◌≡◌, ◌⊎◌, ◌<◌, ℕ, List, [], ◌∷◌, ◌++◌, All, Some, None, map}
+use Rattle.std.specs.Prelude.{◌≡◌, ◌≢◌, ◌⊎◌, ◌<◌, ℕ, List, [], ◌∷◌, ◌++◌, All, Some, None, map}
 use Rattle.shelf.specs.declared.view.Change.TheVariants.{Take}
 use Rattle.shelf.specs.Log as shelf
 use Rattle.shelf.specs.Log.{Begins, shelved, taken}
@@ -75,7 +75,7 @@ pub record Collects (n : ℕ) (old new : KeeperOf) : Type 0 where
   pub takings : taken new.log ≡ taken old.log ++ map (λ o. o.place) more
   pub each : (k : ℕ) → k < n → HasPlace k new.outs ⊎ WasAbsent old.log new.log k
 
--- the keeper is as it was; or it had no place in hand, and collected all
+-- the keeper had a place in hand, and is as it was; or it had none, and collected all
 pub data Refills (old new : KeeperOf) : Type 0 where
-  as_it_was : new ≡ old → Refills old new
+  as_it_was : old.outs ≢ [] → new ≡ old → Refills old new
   collected : old.outs ≡ [] → Collects old.door.door.places old new → Refills old new

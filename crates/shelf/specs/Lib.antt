@@ -1,0 +1,5 @@
+pub mod Log
+pub mod Views
+pub mod Rule
+pub mod Steps
+pub mod Shelves

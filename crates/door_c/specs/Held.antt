@@ -2,7 +2,8 @@
 use Rattle.std.specs.Prelude.{◌≡◌, ◌<◌, ℕ, Option, None, Some}
 use Rattle.hoare_law.specs.declared.event.Sizes.{Sizes}
 use Rattle.door_frame.specs.Places.{PlaceOut}
-use Rattle.door_place.specs.Places.{Acts, GaveNone, GaveOut, GivesBack, IsNew, KeeperOf, MadeNot, PlaceAt}
+use Rattle.door_place.specs.Places.{Acts, GaveNone, GaveOut, GivesBack, IsNew, MadeNot, PlaceAt}
+use Rattle.door_place.specs.Returns.{KeeperOf}
 use Rattle.door_place.specs.States.{Carried, IsState, number_of}
 use Rattle.door_place.specs.Deeds.{Deed}
 use Rattle.door_place.specs.declared.state.State.TheVariants.{Outside}
@@ -15,14 +16,14 @@ pub data Made (sizes : Sizes) (value live : ℕ) (new : Option KeeperOf) (code :
 -- the keeper gave out the place, at its door, and the code is its number, below 64
 pub data GaveHeld (old new : Option KeeperOf) (p : PlaceAt) (code : ℕ) : Type 0 where
   gave : (k l : KeeperOf) → old ≡ Some k → new ≡ Some l → l.door ≡ k.door → p.door ≡ k.door
-      → GaveOut k.outs l.outs p.state → IsState p.door p.state → code ≡ number_of p.state → code < 64
+      → GaveOut k l p.state → IsState p.door p.state → code ≡ number_of p.state → code < 64
       → GaveHeld old new p code
 
 -- the keeper is still there and gave no place out: no door is held (107), or as `GaveNone` states. So if memory was
 -- refused, each place that it had in hand still is
 pub data GaveNothing (old new : Option KeeperOf) (code : ℕ) : Type 0 where
   no_door : old ≡ None → new ≡ None → code ≡ 107 → GaveNothing old new code
-  refused_by : (k l : KeeperOf) → old ≡ Some k → new ≡ Some l → l.door ≡ k.door → GaveNone k.outs l.outs code
+  refused_by : (k l : KeeperOf) → old ≡ Some k → new ≡ Some l → l.door ≡ k.door → GaveNone k l code
       → GaveNothing old new code
 
 -- the place is still held, at its door, and the act was done or refused
@@ -36,8 +37,7 @@ pub record IsSame (old : PlaceAt) (live : ℕ) (new : PlaceAt) : Type 0 where
   pub live_is : live ≡ 1
   pub same : new ≡ old
 
--- the place was outside and was given back (0), and none is held; or it is held as it was: it isn't outside (103), or
--- its slot is in another hand (102)
+-- the place was outside and was given back (0), and none is held; or it isn't outside (103), and is held as it was
 pub data GivenBack (old : PlaceAt) (live : ℕ) (new : PlaceAt) (code : ℕ) : Type 0 where
   given_back : (o : PlaceOut Carried) → old.state ≡ Outside o → live ≡ 0 → code ≡ 0 → GivenBack old live new code
   refused_as : IsSame old live new → GivesBack old.state old.state code → GivenBack old live new code

@@ -1,8 +1,9 @@
 -- What is left of a door at a slot.
-use Rattle.std.specs.Prelude.{◌≡◌, ◌<◌, ℕ, List, Option, Some, None}
-use Rattle.door_frame.specs.Places.{Closes, HasPlace, PlaceOut}
-use Rattle.door_place.specs.Places.{HasMore, KeeperOf, NotClosed, keeper_of}
-use Rattle.door_place.specs.States.{Carried, any, calm}
+use Rattle.std.specs.Prelude.{◌≡◌, ◌<◌, ℕ, Option, Some, None}
+use Rattle.door_frame.specs.Places.{Closes, HasPlace}
+use Rattle.door_place.specs.Places.{NotClosed}
+use Rattle.door_place.specs.Returns.{Collects, KeeperOf}
+use Rattle.door_place.specs.States.{any, calm}
 
 -- The door was closed with this word. All of its places were in hand, and one legal history left the word; it begins
 -- with the front of each of them, and no place did anything else in it.
@@ -16,8 +17,7 @@ pub data WasNotClosed (old : Option KeeperOf) (code : ℕ) : Type 0 where
   no_keeper : old ≡ None → code ≡ 107 → WasNotClosed old code
   not_closed : (k : KeeperOf) → old ≡ Some k → NotClosed k.door.door.places k.outs code → WasNotClosed old code
 
--- The door is still there, perhaps with more places in hand; or there was none.
+-- The door is still there, and its keeper collected all places, as `Collects` states; or there was none.
 pub data Collected (old new : Option KeeperOf) : Type 0 where
   no_door : old ≡ None → new ≡ None → Collected old new
-  collected : (k : KeeperOf) (outs : List (PlaceOut Carried)) → old ≡ Some k → HasMore k.door k.outs outs
-      → new ≡ Some (keeper_of k.door outs) → Collected old new
+  collected : (k l : KeeperOf) → old ≡ Some k → new ≡ Some l → Collects k.door.door.places k l → Collected old new

@@ -13,7 +13,8 @@ pub struct KeeperSlot {
 }
 
 impl KeeperSlot {
-    /// Takes the places in hand that were given back.
+    /// Takes the places in hand that were given back. A place that isn't in hand then was not given back at some moment
+    /// of this call.
     pub fn collect(&mut self)
         ensures { Collected self.old.keeper self.new.keeper }
     {

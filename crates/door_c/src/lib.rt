@@ -101,7 +101,7 @@ pub extern "C" fn zaulinte_door_give_out(
 }
 
 /// Gives a place back to its door, and returns 0: `place` then holds none. Refused, in this order: 107 none is held,
-/// 103 it isn't outside, 102 another thread has its slot in hand at this moment; then the place is held as it was.
+/// 103 it isn't outside: then the place is held as it was.
 #[unsafe(no_mangle)]
 pub extern "C" fn zaulinte_door_give_back(alloc: Global, place: &mut HeldPlace) -> u64
     ensures given { place.old.live ≡ 1
@@ -121,7 +121,8 @@ pub extern "C" fn zaulinte_door_give_back(alloc: Global, place: &mut HeldPlace) 
     DONE
 }
 
-/// Takes the places in hand that were given back, and returns 0. Refused: 107 no door is held.
+/// Takes the places in hand that were given back, and returns 0. A place that isn't in hand then was not given back at
+/// some moment of this call. Refused: 107 no door is held.
 #[unsafe(no_mangle)]
 pub extern "C" fn zaulinte_door_collect(door: &mut HeldDoor) -> u64
     ensures collected { door.old.live ≡ 1 → (result ≡ 0) × (door.new.live ≡ 1)

@@ -1,6 +1,6 @@
 -- The state of a place of a door, and what each act makes of it.
 use Rattle.std.specs.Prelude.{◌≡◌, ◌<◌, ◌≤◌, ℕ, [], ⊤, Bool, IsTrue, if◌then◌else◌}
-use Rattle.std.specs.Prelude.{◌≢◌, ◌↔◌, length, slice_index}
+use Rattle.std.specs.Prelude.{◌≢◌, ◌↔◌, length, slice_index, Option, Some, None}
 use Rattle.hoare_law.specs.declared.event.Event.TheVariants.{Admit, Wait, Leave, SignalTo}
 use Rattle.hoare_law.specs.declared.event.History.{History}
 use Rattle.hoare_law.specs.declared.unconstrained.Unconstrained.{Unconstrained}
@@ -44,6 +44,13 @@ front_of (Outside o) = o.front
 front_of (Inside i) = i.front
 front_of (Away o) = o.front
 front_of Nowhere = opened (sizes_of 0 0 0) (record { value = 0 })
+
+-- the number of the place, if it is here
+abbrev pub place_of : State → Option ℕ
+place_of (Outside o) = Some o.place
+place_of (Inside i) = Some i.place
+place_of (Away o) = Some o.place
+place_of Nowhere = None
 
 -- the number of the place; 0 if it isn't here
 abbrev pub number_of : State → ℕ

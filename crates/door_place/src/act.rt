@@ -5,7 +5,7 @@ ghost use Rattle.baton_door.specs.StepDoors.{StepId};
 ghost use Rattle.hoare_law.specs.Growth.{Begins};
 ghost use Rattle.door_place.specs.Codes.{code_of};
 ghost use Rattle.door_place.specs.Deeds as deeds;
-ghost use Rattle.door_place.specs.States.{IsState, front_of, number_of};
+ghost use Rattle.door_place.specs.States.{IsState, front_of, place_of};
 
 use crate::codes::{
     self, DONE, NO_CONDITION, NOBODY, NOT_AWAY, NOT_INSIDE, NOT_NOW, NOT_OUTSIDE, WRONG_KIND,
@@ -21,7 +21,7 @@ pub trait Act: Copy {
     ghost use Rattle.std.specs.Prelude.{◌≡◌};
     ghost use Rattle.hoare_law.specs.Growth.{Begins};
     ghost use Rattle.door_place.specs.Deeds.{Deed};
-    ghost use Rattle.door_place.specs.States.{IsState, front_of, number_of};
+    ghost use Rattle.door_place.specs.States.{IsState, front_of, place_of};
 
     /// The relation of the door, the old state, the new state and the code: what the act makes of a place's state.
     ghost deed: { Self → Deed };
@@ -31,7 +31,7 @@ pub trait Act: Copy {
         requires { IsState door.now state }
         ensures made { deed self door.now state result.0 result.1 }
         ensures of { IsState door.now result.0 }
-        ensures number { number_of result.0 ≡ number_of state }
+        ensures place { place_of result.0 ≡ place_of state }
         ensures front { Begins (front_of state) (front_of result.0) };
 }
 
@@ -255,7 +255,7 @@ pub(crate) fn signal_leave(state: State, asked: (&Door, u64, u64)) -> (State, (u
     ensures made { deeds.SignalLeave asked.entry.1 asked.entry.2 result.1.1
         asked.entry.0.now state result.0 result.1.0 }
     ensures of { IsState asked.entry.0.now result.0 }
-    ensures number { number_of result.0 ≡ number_of state }
+    ensures place { place_of result.0 ≡ place_of state }
     ensures front { Begins (front_of state) (front_of result.0) }
 {
     let (door, condition, before) = asked;

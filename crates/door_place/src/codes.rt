@@ -10,7 +10,7 @@ pub const DONE: u64 = 0;
 /// The code if the act was done, and no place is to be woken.
 pub const NOBODY: u64 = 64;
 
-/// The code if it isn't the place's turn at this moment, or if another thread has the place's slot in hand.
+/// The code if it isn't the place's turn at this moment, or if a door can't be closed yet.
 pub const NOT_NOW: u64 = 102;
 
 /// The code if the place isn't outside.

@@ -1,42 +1,49 @@
 //! A door with its places that are in hand: those that no thread has taken.
-ghost use Rattle.std.specs.Prelude.{◌≡◌, ◌⊎◌, ◌<◌, [], ℕ, IfOk, IfErr, MatchResult, true, false};
+ghost use Rattle.std.specs.Prelude.{◌≡◌, ◌<◌, ℕ, IfOk, IfErr, true, false};
 ghost use Rattle.std.specs.Arc.{arc_value};
 ghost use Rattle.door_frame.specs.Places.{Closes, HasPlace};
-ghost use Rattle.door_place.specs.Places.{GaveNone, GaveOut, HasMore, IsNew, LacksPlace, MadeNot, NotClosed, place_at};
+ghost use Rattle.door_place.specs.Places.{GaveNone, GaveOut, IsNew, LacksPlace, MadeNot, NotClosed, place_at};
+ghost use Rattle.door_place.specs.Returns.{Collects, Refills, Tries};
 ghost use Rattle.door_place.specs.States.{IsState, any, calm};
-ghost use Rattle.door_place.specs.declared.state.State.TheVariants.{Outside};
+ghost use Rattle.door_place.specs.declared.state.State.TheVariants.{Nowhere};
 
 use crate::codes::{BAD_CONDITIONS, BAD_PLACES, IN_USE, NO_MEMORY, NONE_LEFT, NOT_NOW};
 use crate::moves::may_move;
 use crate::place::Place;
-use crate::shared::Shared;
+use crate::shared::{Returned, Shared};
 use crate::state::{Carried, Out};
 use baton_door::step_door::StepDoor;
 use hoare_law::event::Sizes;
-use std::alloc::Global;
+use shelf::shelf::Collector;
+use std::alloc::{AllocError, Global};
 use std::marker::Model;
 use std::sync::Arc;
 use wait_book::steps::MakeRefused;
 
-/// A door with those of its places that are in hand: they weren't given out, or they were given back and collected.
+/// A door with those of its places that are in hand: they weren't given out, or they were given back and collected. A
+/// contract sees the log of the shelf too, on which a place is between these two, as far as the keeper knows it.
 #[derive(Drop)]
 pub struct Keeper {
     shared: Arc<Shared>,
     outs: Vec<Out>,
+    collector: Collector<Returned>,
 }
 
 impl Model for Keeper {
     ghost use Rattle.std.specs.Prelude.{All};
     ghost use Rattle.std.specs.Arc.{arc_value};
     ghost use Rattle.door_frame.specs.Places.{IsOut};
-    ghost use Rattle.door_place.specs.Places.{KeeperOf, keeper_of};
+    ghost use Rattle.door_place.specs.Returns.{KeeperOf, keeper_of, numbers_onto};
     ghost use Rattle.door_place.specs.States.{any, calm};
+    ghost use Rattle.std.specs.Prelude.{◌≡◌, ◌≤◌, [], vec_capacity};
 
     ghost Value = { KeeperOf };
 
-    ghost view = { λ k. keeper_of (arc_value k.shared) k.outs.items };
+    ghost view = { λ k. keeper_of (arc_value k.shared).tag k.outs.items k.collector.log };
 
-    ghost invariant = { λ k. All (IsOut calm any (arc_value k.shared).kinds (arc_value k.shared).door) k.outs.items };
+    ghost invariant = { λ k. All (IsOut calm any (arc_value k.shared).tag.kinds (arc_value k.shared).tag.door) k.outs.items
+        × (k.collector.shelf ≡ arc_value k.shared) × (k.collector.in_hand ≡ numbers_onto [] k.outs.items)
+        × ((arc_value k.shared).tag.door.places ≤ vec_capacity k.outs) };
 }
 
 /// Returns true if a place with this number is among `outs`.
@@ -65,19 +72,14 @@ fn has_all(outs: &[Out], places: usize) -> bool
     true
 }
 
-/// Returns a place of the shared door in a box. If an allocation fails, it returns `out`.
-fn boxed(alloc: Global, shared: &Arc<Shared>, out: Out) -> Result<Box<Place>, Out>
-    requires { IsState (arc_value shared.now) (Outside out) }
-    ensures { MatchResult result
-        (λ p. p.value ≡ place_at (arc_value shared.now) (Outside out))
-        (λ o. o ≡ out) }
+/// Returns an empty place of the shared door in a box. Fails if an allocation fails.
+fn boxed(alloc: Global, shared: &Arc<Shared>) -> Result<Box<Place>, AllocError>
+    ensures { IfOk result (λ p. p.value ≡ place_at (arc_value shared.now) Nowhere) }
 {
-    let Ok(shared) = Arc::try_clone(shared) else {
-        return Err(out);
-    };
-    match Box::new(alloc, Place::new(shared, out)) {
+    let shared = Arc::try_clone(shared)?;
+    match Box::new(alloc, Place::empty(shared)) {
         Ok(place) => Ok(place),
-        Err(failed) => Err(failed.value.into_outside()),
+        Err(_) => Err(AllocError),
     }
 }
 
@@ -95,34 +97,34 @@ impl Keeper {
             Err((_, MakeRefused::BadConditions)) => return Err(BAD_CONDITIONS),
             Err((_, MakeRefused::Memory)) => return Err(NO_MEMORY),
         };
-        let Ok(shared) = Shared::new(alloc, door, sizes.places) else {
+        let Ok((shared, collector)) = Shared::new(alloc, door, sizes.places) else {
             return Err(NO_MEMORY);
         };
         match Arc::new(alloc, shared) {
-            Ok(shared) => Ok(may_move(Keeper { shared, outs })),
+            Ok(shared) => Ok(may_move(Keeper {
+                shared,
+                outs,
+                collector,
+            })),
             Err(_) => Err(NO_MEMORY),
         }
     }
 
     /// Takes the place with this number in hand, if it was given back.
     fn collect_one(&mut self, number: usize)
-        ensures door { self.new.door ≡ self.old.door }
-        ensures outs { HasMore self.old.door self.old.outs self.new.outs }
+        requires { number < self.old.door.door.places }
+        ensures { Tries number self.old self.new }
     {
-        if self.outs.len() == self.outs.capacity() {
-            return;
-        }
-        let Some(out) = self.shared.take(number) else {
+        let Some(out) = self.shared.take(&mut self.collector, number) else {
             return;
         };
         self.outs.push_reserved(out);
     }
 
-    /// Takes the places in hand that were given back. Leaves out a place whose slot another thread has in hand at this
-    /// moment.
+    /// Takes the places in hand that were given back. A place that isn't in hand then was not given back at some moment
+    /// of this call.
     pub fn collect(&mut self)
-        ensures door { self.new.door ≡ self.old.door }
-        ensures outs { HasMore self.old.door self.old.outs self.new.outs }
+        ensures { Collects self.old.door.door.places self.old self.new }
     {
         let places = self.shared.door().sizes().places;
         for number in 0..places {
@@ -132,8 +134,7 @@ impl Keeper {
 
     /// Collects, if no place is in hand.
     fn refill(&mut self)
-        ensures door { self.new.door ≡ self.old.door }
-        ensures outs { (self.old.outs ≡ []) ⊎ (self.new.outs ≡ self.old.outs) }
+        ensures { Refills self.old self.new }
     {
         if self.outs.is_empty() {
             self.collect();
@@ -146,21 +147,23 @@ impl Keeper {
     pub fn give_out(&mut self, alloc: Global) -> Result<Box<Place>, u64>
         ensures door { self.new.door ≡ self.old.door }
         ensures given_out { IfOk result (λ p. (p.value.door ≡ self.old.door)
-            × GaveOut self.old.outs self.new.outs p.value.state) }
+            × GaveOut self.old self.new p.value.state) }
         ensures of { IfOk result (λ p. IsState p.value.door p.value.state) }
-        ensures refused { IfErr result (λ code. GaveNone self.old.outs self.new.outs code) }
+        ensures refused { IfErr result (λ code. GaveNone self.old self.new code) }
     {
         self.refill();
-        let Some(out) = self.outs.pop() else {
+        if self.outs.is_empty() {
             return Err(NONE_LEFT);
-        };
-        match boxed(alloc, &self.shared, out) {
-            Ok(place) => Ok(place),
-            Err(out) => {
-                self.outs.push_reserved(out);
-                Err(NO_MEMORY)
-            }
         }
+        let Ok(mut place) = boxed(alloc, &self.shared) else {
+            return Err(NO_MEMORY);
+        };
+        let Some(out) = self.outs.pop() else {
+            unreachable!()
+        };
+        let slip = self.shared.shelf().lend(&mut self.collector);
+        place.fill(out, slip);
+        Ok(place)
     }
 
     /// Closes the door if all of its places are in hand, and returns its word. One legal history left that word; it
@@ -177,10 +180,21 @@ impl Keeper {
         if !has_all(&self.outs, places) {
             return Err((self, IN_USE));
         }
-        let Keeper { shared, outs } = self;
+        let Keeper {
+            shared,
+            outs,
+            collector,
+        } = self;
         match Arc::try_unwrap(shared) {
             Ok(shared) => Ok(shared.into_door().close(outs).value),
-            Err(shared) => Err((Keeper { shared, outs }, NOT_NOW)),
+            Err(shared) => Err((
+                Keeper {
+                    shared,
+                    outs,
+                    collector,
+                },
+                NOT_NOW,
+            )),
         }
     }
 }

@@ -2,18 +2,20 @@
 ghost use Rattle.std.specs.Prelude.{◌≡◌};
 ghost use Rattle.baton_door.specs.StepDoors.{StepId};
 ghost use Rattle.std.specs.Arc.{arc_value};
+ghost use Rattle.shelf.specs.Shelves.{shelf_id, slip_of};
 ghost use Rattle.door_place.specs.Deeds as deeds;
 ghost use Rattle.door_place.specs.Places.{Acts, GivesBack, NumberIs, place_at};
 ghost use Rattle.door_place.specs.States.{IsOutside, IsState, Gets, Counts, AsksQueue, AsksFirst, where_is};
-ghost use Rattle.door_place.specs.declared.state.State.TheVariants.{Outside};
+ghost use Rattle.door_place.specs.declared.state.State.TheVariants.{Nowhere, Outside};
 
 use crate::act::{self, Act};
-use crate::codes::{DONE, NOBODY, NOT_NOW, NOT_OUTSIDE};
+use crate::codes::{DONE, NOBODY, NOT_OUTSIDE};
 use crate::moves::may_move;
-use crate::shared::Shared;
+use crate::shared::{Returned, Shared};
 use crate::state::{self, Out, State};
 use core::mem;
 use door_frame::calls;
+use shelf::shelf::Slip;
 use std::marker::Model;
 use std::sync::Arc;
 
@@ -22,23 +24,33 @@ use std::sync::Arc;
 pub struct Place {
     shared: Arc<Shared>,
     state: State,
+    /// The right to put this place on the shelf, if it is here.
+    slip: Option<Slip<Returned>>,
 }
 
 impl Model for Place {
     ghost use Rattle.std.specs.Arc.{arc_value};
     ghost use Rattle.door_place.specs.Places.{PlaceAt, place_at};
-    ghost use Rattle.door_place.specs.States.{IsState};
+    ghost use Rattle.std.specs.Prelude.{◌≡◌};
+    ghost use Rattle.std.specs.Option.{option_map};
+    ghost use Rattle.shelf.specs.Shelves.{slip_of};
+    ghost use Rattle.door_place.specs.States.{IsState, place_of};
 
     ghost Value = { PlaceAt };
 
     ghost view = { λ p. place_at (arc_value p.shared) p.state };
 
-    ghost invariant = { λ p. IsState (arc_value p.shared) p.state };
+    ghost invariant = { λ p. IsState (arc_value p.shared).tag p.state
+        × (p.slip ≡ option_map (slip_of (arc_value p.shared)) (place_of p.state)) };
 }
 
 impl Drop for Place {
     fn drop(self) {
-        let Place { shared, state } = self;
+        let Place {
+            shared,
+            state,
+            slip: _,
+        } = self;
         match state {
             State::Inside(inside) => {
                 calls::leave_to(shared.door(), inside);
@@ -48,43 +60,39 @@ impl Drop for Place {
     }
 }
 
-/// Puts a place that is outside into its slot. Returns the new state, and the code.
-fn given_back(state: State, shared: &Shared) -> (State, u64)
-    requires { IsState shared.now state }
-    ensures gives { GivesBack state result.0 result.1 }
-    ensures of { IsState shared.now result.0 }
+/// Takes the place out, which is outside.
+fn into_outside(state: State) -> Out
+    requires { IsOutside state }
+    ensures { state ≡ Outside result }
 {
     let State::Outside(out) = state else {
-        return (state, NOT_OUTSIDE);
+        unreachable!()
     };
-    match shared.put(out) {
-        Ok(()) => (State::Nowhere, DONE),
-        Err(out) => (State::Outside(out), NOT_NOW),
-    }
+    out
 }
 
 impl Place {
-    /// Creates a place that is outside, of the shared door.
-    pub(crate) fn new(shared: Arc<Shared>, out: Out) -> Place
-        requires { IsState (arc_value shared) (Outside out) }
-        ensures { result ≡ place_at (arc_value shared) (Outside out) }
+    /// Creates an empty place, of the shared door.
+    pub(crate) fn empty(shared: Arc<Shared>) -> Place
+        ensures { result ≡ place_at (arc_value shared) Nowhere }
     {
         may_move(Place {
             shared,
-            state: State::Outside(out),
+            state: State::Nowhere,
+            slip: None,
         })
     }
 
-    /// Takes the place out, which is outside.
-    pub(crate) fn into_outside(self) -> Out
-        requires { IsOutside self.state }
-        ensures { self.state ≡ Outside result }
+    /// Fills an empty place with a place that is outside, and the right to put it on the shelf.
+    pub(crate) fn fill(&mut self, out: Out, slip: Slip<Returned>)
+        requires empty { self.old.state ≡ Nowhere }
+        requires of { IsState self.old.door (Outside out) }
+        requires slip { slip ≡ slip_of (shelf_id self.old.shelf self.old.door) out.place }
+        ensures { self.new ≡ place_at (shelf_id self.old.shelf self.old.door) (Outside out) }
     {
-        let Place { shared: _, state } = self;
-        let State::Outside(out) = state else {
-            unreachable!()
-        };
-        out
+        let old = mem::replace(&mut self.state, State::Outside(out));
+        let State::Nowhere = old else { unreachable!() };
+        self.slip = Some(slip);
     }
 
     /// Does `act`, or refuses it, and returns the code.
@@ -112,14 +120,22 @@ impl Place {
         code
     }
 
-    /// Gives the place back to its door, and returns `DONE`: it isn't here then. Refused, in this order: `NOT_OUTSIDE`;
-    /// `NOT_NOW` if another thread has the place's slot in hand. A refusal changes nothing.
+    /// Gives the place back to its door, and returns `DONE`: it isn't here then. Refused: `NOT_OUTSIDE`; that changes
+    /// nothing.
     pub fn give_back(&mut self) -> u64
         ensures door { self.new.door ≡ self.old.door }
+        ensures shelf { self.new.shelf ≡ self.old.shelf }
         ensures gives { GivesBack self.old.state self.new.state result }
     {
-        let shared: &Shared = &self.shared;
-        mem::replace_with(&mut self.state, shared, given_back)
+        let State::Outside(_) = &self.state else {
+            return NOT_OUTSIDE;
+        };
+        let out = into_outside(mem::replace(&mut self.state, State::Nowhere));
+        let Some(slip) = self.slip.take() else {
+            unreachable!()
+        };
+        self.shared.put(slip, out);
+        DONE
     }
 
     /// Returns the place's number, below 64, if it is outside, else `NOBODY`.

@@ -1,11 +1,14 @@
-//! What all places of a door share: the door, and a slot for each place, into which the place is put when it is given
-//! back.
-ghost use Rattle.std.specs.Prelude.{◌≡◌, ◌<◌, All, IfOk, IfErr, IfSome};
+//! What all places of a door share: the door, and the shelf for the places that are given back.
+ghost use Rattle.std.specs.Prelude.{◌≡◌, ◌<◌, [], IfOk, IfSome, IfNone};
 ghost use Rattle.door_frame.specs.Places.{IsOut};
+ghost use Rattle.shelf.specs.Shelves.{WasAbsent, WasTaken, collector_of};
+ghost use Rattle.shelf.specs.Views.{AreNumbers, numbers_below};
+ghost use Rattle.door_place.specs.Returns.{returned};
 ghost use Rattle.door_place.specs.States.{any, calm};
 
 use crate::state::{Door, Out};
-use counted_slot::{Counted, FREE, Fits, TAKEN};
+use shelf::rule::Shelved;
+use shelf::shelf::{Collector, Shelf, Slip};
 use std::alloc::{AllocError, Global};
 use std::marker::Model;
 
@@ -15,106 +18,95 @@ pub struct Returned {
     out: Out,
 }
 
-impl Fits for Returned {
+impl Shelved for Returned {
+    ghost use Rattle.std.specs.Prelude.{◌≡◌};
+
     type Tag = Door;
 
-    ghost fits = { λ d r. IsOut calm any d.kinds d.door r.out };
+    ghost spots = { λ d. d.door.places };
+
+    ghost fits = { λ d k r. IsOut calm any d.kinds d.door r.out × (r.out.place ≡ k) };
 }
 
-/// The door, and a slot for each of its places. All places and the keeper share it.
+/// The door, and the shelf for its places. All places and the keeper share it. A contract sees the shelf, whose tag is
+/// the door.
 #[derive(Drop)]
 pub struct Shared {
     door: Door,
-    slots: Vec<Counted<Option<Returned>>>,
-    ghost same: { All (λ tag. tag ≡ door) slots.items },
+    shelf: Shelf<Returned>,
+    ghost same: { shelf.tag ≡ door },
 }
 
 impl Model for Shared {
     ghost use Rattle.baton_door.specs.StepDoors.{StepId};
+    ghost use Rattle.shelf.specs.Shelves.{ShelfId};
 
-    ghost Value = { StepId };
+    ghost Value = { ShelfId StepId };
 
-    ghost view = { λ s. s.door };
-}
-
-/// Returns an empty slot for a place of this door.
-#[inline(never)] // else the loop that makes all slots becomes a call of memset, which a kernel may not have
-fn slot(door: &Door) -> Counted<Option<Returned>>
-    ensures { result ≡ door.now }
-{
-    Counted::new(None, door)
-}
-
-/// Returns `places` empty slots for places of this door. Fails if the allocation fails.
-fn slots(
-    alloc: Global,
-    door: &Door,
-    places: usize,
-) -> Result<Vec<Counted<Option<Returned>>>, AllocError>
-    ensures { IfOk result (λ v. All (λ tag. tag ≡ door.now) v.items) }
-{
-    let mut slots = Vec::with_capacity(alloc, places)?;
-    for made in 0..places {
-        slots.push_reserved(slot(door));
-    }
-    Ok(slots)
+    ghost view = { λ s. s.shelf };
 }
 
 impl Shared {
-    /// Creates `places` slots for the door. Fails if the allocation fails.
-    pub(crate) fn new(alloc: Global, door: Door, places: usize) -> Result<Shared, AllocError>
-        ensures { IfOk result (λ s. s ≡ door) }
+    /// Creates an empty shelf for the places of the door, and its collector, which has all of them in hand. Fails if an
+    /// allocation fails.
+    pub(crate) fn new(
+        alloc: Global,
+        door: Door,
+        places: usize,
+    ) -> Result<(Shared, Collector<Returned>), AllocError>
+        requires { places ≡ door.door.places }
+        ensures { IfOk result (λ r. (r.0.tag ≡ door) × (r.1 ≡ collector_of r.0 [] (numbers_below places))) }
     {
-        let slots = slots(alloc, &door, places)?;
-        Ok(Shared { door, slots })
+        let (shelf, collector) = Shelf::new(alloc, places, &door)?;
+        Ok((Shared { door, shelf }, collector))
     }
 
     /// Returns the door.
     #[inline(always)]
     pub(crate) fn door(&self) -> &Door
-        ensures { result.now ≡ self.now }
+        ensures { result.now ≡ self.now.tag }
     {
         &self.door
     }
 
-    /// Takes the door out. The slots are dropped.
-    pub(crate) fn into_door(self) -> Door
-        ensures { result ≡ self }
+    /// Returns the shelf.
+    #[inline(always)]
+    pub(crate) fn shelf(&self) -> &Shelf<Returned>
+        ensures { result.now ≡ self.now }
     {
-        let Shared { door, slots: _ } = self;
+        &self.shelf
+    }
+
+    /// Takes the door out. The shelf is dropped.
+    pub(crate) fn into_door(self) -> Door
+        ensures { result ≡ self.tag }
+    {
+        let Shared { door, shelf: _ } = self;
         door
     }
 
-    /// Puts a place into the slot of its number. Returns the place if another thread has that slot in hand.
-    pub(crate) fn put(&self, out: Out) -> Result<(), Out>
-        requires of { IsOut calm any self.now.kinds self.now.door out }
-        ensures same { IfErr result (λ o. o ≡ out) }
+    /// Puts a place on the shelf.
+    pub(crate) fn put(&self, slip: Slip<Returned>, out: Out)
+        requires shelf { slip.shelf ≡ self.now }
+        requires number { slip.number ≡ out.place }
+        requires of { IsOut calm any self.now.tag.kinds self.now.tag.door out }
     {
-        let Some(slot) = self.slots.get(out.number()) else {
-            return Err(out);
-        };
-        let (found, claim) = slot.turn(FREE, TAKEN);
-        if found != FREE {
-            claim.done();
-            return Err(out);
-        }
-        // each place has a number of its own: the slot was empty
-        let _ = claim.put(Some(Returned { out }), FREE);
-        Ok(())
+        let number = out.number();
+        self.shelf.put(slip, number, Returned { out });
     }
 
-    /// Takes the place with this number. Returns `None` if it isn't in its slot, or another thread has the slot in
-    /// hand.
-    pub(crate) fn take(&self, number: usize) -> Option<Out>
-        ensures of { IfSome result (λ o. IsOut calm any self.now.kinds self.now.door o) }
+    /// Takes the place with this number from the shelf. Returns `None` if it isn't there at some moment of this call,
+    /// up to which the collector learns the log.
+    pub(crate) fn take(&self, collector: &mut Collector<Returned>, number: usize) -> Option<Out>
+        requires shelf { collector.old.shelf ≡ self.now }
+        requires number { number < self.now.tag.door.places }
+        ensures shelf { collector.new.shelf ≡ self.now }
+        ensures numbers { AreNumbers self.now.tag.door.places collector.new.in_hand }
+        ensures of { IfSome result (λ o. IsOut calm any self.now.tag.kinds self.now.tag.door o × (o.place ≡ number)) }
+        ensures taken { IfSome result (λ o. WasTaken number (returned o) collector.old collector.new) }
+        ensures absent { IfNone result (WasAbsent number collector.old collector.new) }
     {
-        let slot = self.slots.get(number)?;
-        let (found, claim) = slot.turn(FREE, TAKEN);
-        if found != FREE {
-            claim.done();
-            return None;
-        }
-        let Returned { out } = claim.put(None, FREE)?;
+        let Returned { out } = self.shelf.take(collector, number)?;
         Some(out)
     }
 }

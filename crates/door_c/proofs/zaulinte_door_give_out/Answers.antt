@@ -1,6 +1,7 @@
 use Rattle.std.proofs.Common.{◌≡◌, Option, Some, refl, sym, ap, ◌∙◌, subst, arith}
 use Rattle.c_handle.specs.declared.held.Held as generic
-use Rattle.door_place.specs.Places.{KeeperOf, NumberIs, PlaceAt}
+use Rattle.door_place.specs.Places.{NumberIs, PlaceAt}
+use Rattle.door_place.specs.Returns.{KeeperOf}
 use Rattle.door_c.specs.declared.keeper_slot.KeeperSlot.{KeeperSlot}
 use Rattle.door_c.specs.Held.{GaveHeld, gave, refused_by}
 use Rattle.door_c.proofs.Numbers.{numbered}

@@ -1,5 +1,5 @@
 use Rattle.std.proofs.Common.{Some, sym, ap, ◌∙◌}
-use Rattle.door_place.specs.Places.{KeeperOf}
+use Rattle.door_place.specs.Returns.{KeeperOf}
 use Rattle.door_c.specs.KeeperSlots.{closed, not_closed}
 use Rattle.door_c.proofs.keeper_slot.KeeperSlot.close.Goals as goal
 

@@ -1,14 +1,10 @@
-use Rattle.std.proofs.Common.{◌∙◌, subst}
-use Rattle.baton_door.specs.StepDoors.{StepId}
-use Rattle.door_place.specs.Places.{HasMore}
-use Rattle.door_place.proofs.Lists.{has_more_then}
+use Rattle.door_place.proofs.Lists.{none_yet, one_collected}
 use Rattle.door_place.proofs.keeper.Keeper.collect.Goals as goal
+
+pub loop-number-init : goal.loop-number-init
+loop-number-init c = none_yet c.args.self.now
 
 pub loop-number-preserved : goal.loop-number-preserved
 loop-number-preserved c =
-    let door = c.loop-number.invariant.0 in (
-      c.collect_one.ensures.door ∙ door,
-      has_more_then c.loop-number.invariant.1
-          (subst (λ (d : StepId). HasMore d c.loop-number.self.outs c.collect_one.new.self.outs) door
-          c.collect_one.ensures.outs),
-    )
+    one_collected c.loop-number.number c.args.self.now c.loop-number.self c.collect_one.new.self c.loop-number.invariant
+    c.collect_one.ensures

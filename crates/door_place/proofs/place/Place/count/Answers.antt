@@ -1,4 +1,5 @@
-use Rattle.std.proofs.Common.{subst, ◌∙◌}
+use Rattle.std.proofs.Common.{ap, subst, ◌∙◌}
+use Rattle.shelf.specs.Shelves.{ShelfId}
 use Rattle.baton_door.specs.StepDoors.{StepId}
 use Rattle.door_place.specs.Places.{PlaceAt}
 use Rattle.door_place.specs.States.{Counts}
@@ -8,4 +9,4 @@ pub returns : goal.returns
 returns c =
     subst (λ (p : PlaceAt). Counts p.door p.state c.args.condition c.count.result) c.self.view_is
     (subst (λ (d : StepId). Counts d c.self.inside.state c.args.condition c.count.result)
-    (c.door.ensures ∙ c.deref.ensures) c.count.ensures)
+    (c.door.ensures ∙ ap (λ (d : ShelfId StepId). d.tag) c.deref.ensures) c.count.ensures)

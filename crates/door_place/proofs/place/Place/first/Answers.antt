@@ -1,4 +1,5 @@
-use Rattle.std.proofs.Common.{subst, ◌∙◌}
+use Rattle.std.proofs.Common.{ap, subst, ◌∙◌}
+use Rattle.shelf.specs.Shelves.{ShelfId}
 use Rattle.baton_door.specs.StepDoors.{StepId}
 use Rattle.door_place.specs.Places.{PlaceAt}
 use Rattle.door_place.specs.States.{AsksFirst}
@@ -9,4 +10,4 @@ returns c =
     subst (λ (p : PlaceAt). AsksFirst p.door p.state c.args.condition c.args.priority.now c.first.new.priority
     c.first.result) c.self.view_is
     (subst (λ (d : StepId). AsksFirst d c.self.inside.state c.args.condition c.args.priority.now c.first.new.priority
-    c.first.result) (c.door.ensures ∙ c.deref.ensures) c.first.ensures)
+    c.first.result) (c.door.ensures ∙ ap (λ (d : ShelfId StepId). d.tag) c.deref.ensures) c.first.ensures)

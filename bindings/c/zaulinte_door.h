@@ -44,7 +44,7 @@ enum zaulinte_door_code {
     ZAULINTE_DOOR_DONE = 0,            /* the call was done */
     ZAULINTE_DOOR_ENTERED = 64,        /* the place is inside */
     ZAULINTE_DOOR_NOBODY = 64,         /* no place is to be woken */
-    ZAULINTE_DOOR_NOT_NOW = 102,       /* not possible at this moment: the monitor or the slot is taken */
+    ZAULINTE_DOOR_NOT_NOW = 102,       /* not possible at this moment: the monitor is taken, or a place still in use */
     ZAULINTE_DOOR_NOT_OUTSIDE = 103,   /* the place is inside or away */
     ZAULINTE_DOOR_NOT_INSIDE = 104,    /* the place is outside or away */
     ZAULINTE_DOOR_NO_CONDITION = 105,  /* no condition has this number */
@@ -72,10 +72,10 @@ uint64_t zaulinte_door_make(zaulinte_door *door, uint64_t places, uint64_t condi
  * 107 `door` holds no door, 114 all places are taken, 111 an allocation failed: the place is still in hand then. */
 uint64_t zaulinte_door_give_out(zaulinte_door *door, zaulinte_door_place *place);
 /* Gives the place back to its door, and returns 0: `place` then holds nothing. Refused: 107 `place` holds nothing, 103
- * the place isn't outside, 102 another thread has the place's slot in hand at this moment (try again). */
+ * the place isn't outside. */
 uint64_t zaulinte_door_give_back(zaulinte_door_place *place);
-/* Takes those places in hand that were given back, and returns 0. A place whose slot another thread has in hand at this
- * moment is left out. Refused: 107 `door` holds no door. */
+/* Takes all places in hand that were given back, and returns 0. A place that isn't in hand then wasn't given back at
+ * some moment of the call. Refused: 107 `door` holds no door. */
 uint64_t zaulinte_door_collect(zaulinte_door *door);
 /* Closes the door if all of its places are in hand (see `collect`), writes the word that the last visit left to *value,
  * and returns 0: `door` then holds nothing. Refused: 107 `door` holds no door; 112 a place was given out, and not given

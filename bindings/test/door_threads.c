@@ -163,7 +163,7 @@ static void notify(seat *s, uint64_t condition) { CHECK(zaulinte_door_notify(&s-
 /* The keeper's lock: `give_out`, `collect` and `close` under it, `give_back` without it. */
 static pthread_mutex_t keeper = PTHREAD_MUTEX_INITIALIZER;
 static _Atomic int is_out[MOST];
-static _Atomic long none_left, not_now;
+static _Atomic long none_left;
 static void opens(int places) { CHECK(zaulinte_door_make(&door, (uint64_t)places, 4, 2, 0) == 0); }
 /* Takes a place, with a number that no other thread has; false if all are taken. A door isn't closed meanwhile. */
 static bool takes_place(seat *s, int places) {
@@ -180,10 +180,9 @@ static bool takes_place(seat *s, int places) {
     return true;
 }
 static void gives_place_back(seat *s) {
-    uint64_t code;
     CHECK(atomic_exchange(&is_out[s->number], 0) == 1);
-    while ((code = zaulinte_door_give_back(&s->place)) == ZAULINTE_DOOR_NOT_NOW) atomic_fetch_add(&not_now, 1);
-    CHECK(code == 0 && zaulinte_door_state(&s->place) == ZAULINTE_DOOR_NOTHING_HELD);
+    CHECK(zaulinte_door_give_back(&s->place) == 0);
+    CHECK(zaulinte_door_state(&s->place) == ZAULINTE_DOOR_NOTHING_HELD);
 }
 static void closes(uint64_t wanted) {
     uint64_t value = 0;
@@ -365,7 +364,6 @@ int main(int count, char **words) {
         share_a_buffer(4, mesa);
     }
     places_go_round();
-    printf("door_threads: sums right; a place was refused %ld times (114), its slot was in hand %ld times (102)\n",
-        atomic_load(&none_left), atomic_load(&not_now));
+    printf("door_threads: sums right; a place was refused %ld times (114)\n", atomic_load(&none_left));
     return 0;
 }

@@ -170,9 +170,6 @@ impl Seat {
 
 impl Drop for Seat {
     fn drop(&mut self) {
-        // another thread has the place's slot in hand for a moment: the header asks for another attempt
-        while unsafe { zaulinte_door_give_back(&mut self.handle) } == NOT_NOW {
-            core::hint::spin_loop();
-        }
+        unsafe { zaulinte_door_give_back(&mut self.handle) };
     }
 }

@@ -1,12 +1,12 @@
 /* The two functions by which the archives allocate and free memory, for programs without malloc: from one array of
  * ZAULINTE_ROOM bytes. A freed block can be allocated again only when all blocks are free. NOT PROVED. A monitor of 64
- * places takes some 6 KB, a book some 3 KB. There is no lock: one thread at a time makes and frees monitors and books
+ * places takes some 8 KB, a book some 3 KB. There is no lock: one thread at a time makes and frees monitors and books
  * (the other calls of a monitor allocate nothing). */
 #include <stdbool.h>
 #include <stddef.h>
 
 #ifndef ZAULINTE_ROOM
-#define ZAULINTE_ROOM 8192
+#define ZAULINTE_ROOM 12288
 #endif
 struct tried {
     bool is;

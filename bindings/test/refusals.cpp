@@ -9,7 +9,6 @@
 #include <sstream>
 #include <thread>
 #include <type_traits>
-#include <vector>
 
 class store {
   public:
@@ -215,90 +214,41 @@ static void data_alone(const std::string &path) {
     }
     is(saved(sum, path) == "monitor 2 1 0\nenter 1\nleave 1\nenter 0\nleave 0\n");
 }
+// Returns once `many` places wait on `take`.
+static void await(monitor &m, unsigned many) {
+    while (m.enter(0).count(store::may::take) < many) std::this_thread::yield();
+}
 // Two places wait, the second without a priority, so it is first. Checks that are null hold.
 static void by_priority() {
     constexpr auto take = store::may::take;
     monitor m(3);
     m.check({});
-    auto await = [&](unsigned many) {
-        while (m.enter(0).count(take) < many) std::this_thread::yield();
-    };
     std::thread last([&] { m.enter(1).wait(take, UINT64_MAX); });
-    await(1);
+    await(m, 1);
     std::thread first([&] { m.enter(2).wait(take); });
-    await(2);
+    await(m, 2);
     auto in = m.enter(0);
     is(in.first(take) == 0u && in.signal(take) && in.first(take) == UINT64_MAX && in.signal_leave(take));
     first.join(), last.join();
 }
-
-// The waiters of a monitor of four places, for signals to one of them: places 1 to 3 wait in this order.
-struct served {
-    ZAULINTE_CONDITIONS_IN_CLASS(on, item, other);
-    std::vector<unsigned> resumed; // the places, in order
-    std::optional<unsigned> ended; // the waiter whose wait is ended without an item
-    unsigned items = 0;
-};
-class waiters {
-    using of_served = zaulinte::monitor<served, served::on>;
-    of_served m{4};
-    bool has_item[4]{};
-    std::vector<std::thread> threads;
-
-  public:
-    explicit waiters(const std::uint64_t (&priority)[3]) {
-        for (unsigned k = 1; k <= 3; k++) {
-            threads.emplace_back([this, k, p = priority[k - 1]] { has_item[k] = waits(k, p); });
-            while (m.enter(0).count(served::on::item) < k) std::this_thread::yield();
-        }
-    }
-    // Waits, and takes an item, unless the wait is ended. Returns true if it took one.
-    bool waits(unsigned k, std::uint64_t priority) {
-        auto in = m.enter(k);
-        in.wait(served::on::item, priority);
-        in->resumed.push_back(in.place_number());
-        if (std::exchange(in->ended, std::nullopt) == k) return false;
-        return in->items-- > 0;
-    }
-    of_served::inside enter() { return m.enter(0); }
-    // Gives each waiter an item, in the order in which a signal resumes them. Returns true if all but `none` took one.
-    bool serves(const std::vector<unsigned> &order, unsigned none) {
-        {
-            auto in = m.enter(0);
-            while (in.queue(served::on::item)) in->items++, is(in.signal(served::on::item));
-            is(in->resumed == order && in->items == 0);
-        }
-        for (auto &t : threads) t.join();
-        bool all = true;
-        for (unsigned k = 1; k <= 3; k++) all = all && has_item[k] == (k != none);
-        return all;
-    }
-};
-// A signal to a place resumes it, whoever else waits, and the others keep their order.
-static void to_a_place(const std::uint64_t (&priority)[3], unsigned waiter, const std::vector<unsigned> &order) {
-    constexpr auto item = served::on::item;
-    waiters w(priority);
-    {
-        auto in = w.enter();
-        in->items++;
-        is(in.place_number() == 0 && in.signal_to(item, waiter));
-        is(in->resumed == std::vector{waiter} && in.count(item) == 2); // it resumed before this place was back
-        is(!in.signal_to(item, waiter) && !in.signal_to(item, 0) && !in.signal_to(served::on::other, order[1]));
-        for (unsigned none : {4u, 63u, 64u, 255u, 256u + order[1], 65536u + order[1], UINT32_MAX})
-            is(!in.signal_to(item, none));
-        is(in->resumed.size() == 1 && in.count(item) == 2);
-    }
-    is(w.serves(order, 0));
-}
-// The waiters come in the order of their arrival, and the limit of the second ends first.
-static void to_a_late_place() {
-    waiters w({0, 0, 0});
-    {
-        auto in = w.enter();
-        in->ended = 2;
-        is(in.signal_to(served::on::item, 2) && !in->ended && in.count(served::on::item) == 2);
-    }
-    is(w.serves({2, 1, 3}, 2));
+// Two places wait. A signal to the second resumes it, and is true; one to a number that no waiter has is false.
+static void to_a_place() {
+    constexpr auto take = store::may::take;
+    monitor m(3);
+    auto waits = [&](unsigned number) {
+        auto in = m.enter(number);
+        in.wait(take);
+        in->items = in.place_number();
+    };
+    std::thread first(waits, 1);
+    await(m, 1);
+    std::thread second(waits, 2);
+    await(m, 2);
+    auto in = m.enter(0);
+    for (unsigned none : {0u, 3u, 64u, 256u + 2, 65536u + 2, UINT32_MAX}) is(!in.signal_to(take, none));
+    is(!in.signal_to(store::may::put, 2) && in.signal_to(take, 2) && in->items == 2 && in.place_number() == 0);
+    is(in.queue(take) && in.signal_to(take, 1) && in->items == 1 && !in.queue(take));
+    first.join(), second.join();
 }
 
 static bool inv(const store &s) { return s.items >= 0; }
@@ -338,11 +288,7 @@ int main(int argc, char **argv) {
     assigned();
     limits();
     by_priority();
-    to_a_place({5, 5, 5}, 2, {2, 1, 3});
-    to_a_place({5, 5, 5}, 3, {3, 1, 2});
-    to_a_place({7, 6, 5}, 1, {1, 3, 2});
-    to_a_place({9, 5, 7}, 2, {2, 3, 1});
-    to_a_late_place();
+    to_a_place();
     recorded(argv[0] + std::string(".script"));
     data_alone(argv[0] + std::string(".script"));
     tested(fault);

@@ -56,28 +56,3 @@ fn each_call_gives_the_answer_of_its_row() {
     }
     assert_eq!(Refused::NoMemory.to_string(), text(111)); // no row is refused so
 }
-
-#[test]
-fn a_signal_to_a_place_resumes_that_place() {
-    let mut book = Book::new(4, 3, 1).unwrap();
-    for place in 1..4 {
-        book.enter(place).unwrap();
-        book.wait(place, 1, 5).unwrap();
-    }
-    book.enter(0).unwrap();
-    let refusals = [
-        (4, 9, Refused::NoPlace),
-        (1, 9, Refused::NotInside),
-        (0, 3, Refused::NoCondition),
-        (0, 2, Refused::WrongKind),
-    ];
-    for (place, condition, refused) in refusals {
-        assert_eq!(book.signal_to(place, condition, 2), Err(refused));
-    }
-    for (condition, waiter) in [(0, 2), (1, 0), (1, 4), (1, 64), (1, usize::MAX)] {
-        assert_eq!(book.signal_to(0, condition, waiter), Ok(Some(0)));
-    }
-    assert_eq!(book.signal_to(0, 1, 2), Ok(Some(2)));
-    assert_eq!((book.leave(2), book.signal(0, 1), book.leave(1)), (Ok(Some(0)), Ok(Some(1)), Ok(Some(0))));
-    assert_eq!((book.pass(0, 1), book.leave(3), book.now()), (Ok(Some(3)), Ok(None), None));
-}
